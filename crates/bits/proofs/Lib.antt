@@ -1,0 +1,6 @@
+pub mod Numbers
+pub mod Files
+pub mod Fields
+pub mod Places
+pub mod Words
+pub mod Laws

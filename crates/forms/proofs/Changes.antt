@@ -1,6 +1,6 @@
 -- What a change of words over a coder answers, from what the coder within answers.
 use mathlib.Core.Path.{_≡_, refl, sym, ap, subst, subst⁻¹, _∙_}
-use mathlib.Core.Bool.{Bool}
+use mathlib.Core.Bool.{Bool, false}
 use mathlib.Core.List.{List}
 use Prim.Native.Nat.{ℕ, _-_, _^_, _<_, _≤_}
 use native.Mathlib.Omega.{arith}
@@ -10,7 +10,7 @@ use Rattle.forms.specs.Code.{Code, Means, Found, form, short, walk, formOf, re
 use Rattle.forms.specs.Rules.{Rules}
 use Rattle.forms.specs.Coding.{Coding, Sound, behind, encoded, Decoding, word, dead, partial, told, decoded}
 use Rattle.forms.proofs.Codes.{named, found, walk-renamed, walk-means}
-use Rattle.forms.specs.Coders.{minus, plus, rotr, turn, delta}
+use Rattle.forms.specs.Coders.{minus, plus, rotr, turn, delta, deltaIf}
 use Rattle.forms.proofs.Rules.{Swaps, formOf-renamed, formOf-over}
 use Rattle.forms.proofs.Coders.{turn-swaps, delta-swaps}
 
@@ -88,3 +88,22 @@ module _ {M : Type 0} {w : ℕ} (C : Coding M) (sound : Sound w C) where
 
   pub turn-decoded : (b : ℕ) → b ≤ w → (m : M) (bs : List Bool) → decoded (turn w b C) m bs ≡ back (rotr w (w - b)) (λ y k. k) (decoded C m bs)
   turn-decoded b l m bs = changed-decoded (turn-swaps w b l) C m (sound m) (turn w b C) m refl (λ y k. k) (λ y. refl) bs
+
+-- a delta that is off
+module _ {M : Type 0} (w : ℕ) (C : Coding M) (on : Bool) (off : on ≡ false) (m : ℕ × M) where
+  beside-moves : (o : Option (List Bool)) (k : M) → behind {M = ℕ × M} o (m .0, k) ≡ moved (λ j. (m .0, j)) (behind o k)
+  beside-moves None k = refl
+  beside-moves (Some s) k = refl
+
+  beside-tells : (o : Found) → told {M = ℕ × M} (λ x. (m .0, C .after (m .1) x)) o ≡ back (λ x. x) (λ x k. (m .0, k)) (told (C .after (m .1)) o)
+  beside-tells (form (Some x) n) = refl
+  beside-tells (form None n) = refl
+  beside-tells short = refl
+
+  pub off-encoded : (x : ℕ) (o : Option (List Bool × M)) → o ≡ encoded C (m .1) x → moved (λ k. (m .0, k)) o ≡ encoded (deltaIf w on C) m x
+  unfolding encoded
+  off-encoded x o e = ap (moved (λ k. (m .0, k))) e ∙ sym (beside-moves (formOf (C .code (m .1)) x) (C .after (m .1) x)) ∙ ap (λ b. encoded (deltaIf w b C) m x) (sym off)
+
+  pub off-decoded : (bs : List Bool) (o : Decoding M) → o ≡ decoded C (m .1) bs → back (λ x. x) (λ x k. (m .0, k)) o ≡ decoded (deltaIf w on C) m bs
+  unfolding decoded
+  off-decoded bs o e = ap (back (λ x. x) (λ x k. (m .0, k))) e ∙ sym (beside-tells (walk (C .code (m .1)) bs)) ∙ ap (λ b. decoded (deltaIf w b C) m bs) (sym off)

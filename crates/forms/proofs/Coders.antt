@@ -18,7 +18,7 @@ use Rattle.bits.proofs.Numbers.{length-bits, number-bits, number-lt, bits-numbe
 use Rattle.forms.specs.Code.{Code, ends, fork, Means, walk, form, short, field, renamed, Within}
 use Rattle.forms.specs.Rules.{Rules}
 use Rattle.forms.specs.Coding.{Coding, Sound}
-use Rattle.forms.specs.Coders.{minus, plus, rotr, plain, null, constant, afterFew, reduced, turn, delta, beside}
+use Rattle.forms.specs.Coders.{minus, plus, rotr, plain, null, constant, afterFew, reduced, turn, delta, beside, deltaIf}
 use Rattle.forms.proofs.Codes.{Split, field-means, means-field, within-field, within-more, within-renamed, some-same, none-some}
 use Rattle.forms.proofs.Rules.{rules-of, Swaps, renamed-rules}
 
@@ -182,6 +182,10 @@ delta-sound w C K m = renamed-rules (delta-swaps w (m .0)) (C .code (m .1)) (K (
 
 pub beside-sound : {M : Type 0} (w : ℕ) (C : Coding M) → Sound w C → Sound w (beside C)
 beside-sound w C K m = K (m .1)
+
+pub deltaIf-sound : {M : Type 0} (w : ℕ) (on : Bool) (C : Coding M) → Sound w C → Sound w (deltaIf w on C)
+deltaIf-sound w true C K = delta-sound w C K
+deltaIf-sound w false C K = beside-sound w C K
 
 pub within : (b w : ℕ) → 0 < w → b % w ≤ w
 within b w h = let l = mod-lt b h in omega arith

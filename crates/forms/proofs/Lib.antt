@@ -4,5 +4,6 @@ pub mod Changes
 pub mod Coders
 pub mod Blocks
 pub mod Reading
+pub mod Plain
 pub mod Windows
 pub mod Modular

@@ -63,3 +63,8 @@ beside C = record {
   code = λ m. C .code (m .1);
   after = λ m x. (m .0, C .after (m .1) x);
 }
+
+-- delta where it is flagged
+abbrev pub deltaIf : {M : Type 0} → ℕ → Bool → Coding M → Coding (ℕ × M)
+deltaIf w true C = delta w C
+deltaIf w false C = beside C

@@ -175,6 +175,39 @@ field-four f p h t =
     let z = field-lt f (8 * (p + 4)) 0 in
     omega arith
 
+-- 8, 16 and 24 bits at a byte's place
+pub field-one : (f : List ℕ) (p : ℕ) → p + 1 ≤ length f → ((i : ℕ) → getD f i 0 < 256) → fieldAt f (8 * p) 8 ≡ getD f p 0
+field-one f p h t =
+    let m0 = field-next f p (p + 1) 0 (omega arith) (omega arith) (t p) in
+    let z = field-lt f (8 * (p + 1)) 0 in
+    omega arith
+
+pub field-two : (f : List ℕ) (p : ℕ) → p + 2 ≤ length f → ((i : ℕ) → getD f i 0 < 256) → fieldAt f (8 * p) 16 ≡ getD f p 0 + getD f (p + 1) 0 * 256
+field-two f p h t =
+    let m0 = field-next f p (p + 1) 8 (omega arith) (omega arith) (t p) in
+    let m1 = field-one f (p + 1) (omega arith) t in
+    omega arith
+
+pub field-three : (f : List ℕ) (p : ℕ) → p + 3 ≤ length f → ((i : ℕ) → getD f i 0 < 256) → fieldAt f (8 * p) 24 ≡ getD f p 0 + getD f (p + 1) 0 * 256 + getD f (p + 2) 0 * 65536
+field-three f p h t =
+    let m0 = field-next f p (p + 1) 16 (omega arith) (omega arith) (t p) in
+    let i : p + 1 + 1 ≡ p + 2 = omega arith in
+    let m1 = rw i at (field-two f (p + 1) (omega arith) t) in
+    omega arith
+
+-- the low bytes of a number
+pub bytes-front : (n m : ℕ) (v : ℕ) → n ≤ m → take n (bytes m (bits (8 * m) v)) ≡ bytes n (bits (8 * n) v)
+bytes-front n m v h =
+    let e : 8 * n + 8 * (m - n) ≡ 8 * m = omega arith in
+    let B : List ℕ = bytes m (bits (8 * m) v) in
+    let lB : length B ≡ m = length-bytes m (bits (8 * m) v) in
+    let t : take (8 * n) (bitsOf B) ≡ bitsOf (take n B) = take-bitsOf n B (omega arith) in
+    let c : bitsOf B ≡ bits (8 * m) v = bitsOf-bytes m (bits (8 * m) v) (length-bits (8 * m) v) in
+    let d : take (8 * n) (bits (8 * n + 8 * (m - n)) v) ≡ bits (8 * n) v = take-bits (8 * n) (8 * (m - n)) v in
+    let q : bitsOf (bytes n (bits (8 * n) v)) ≡ bits (8 * n) v = bitsOf-bytes n (bits (8 * n) v) (length-bits (8 * n) v) in
+    let s : bitsOf (take n B) ≡ bitsOf (bytes n (bits (8 * n) v)) = cc in
+    bitsOf-inj (take n B) (bytes n (bits (8 * n) v)) (Bytes-take n B (bytes-Bytes m (bits (8 * m) v))) (bytes-Bytes n (bits (8 * n) v)) s
+
 -- whole bytes that are put
 pub put-stored : (f : List ℕ) (p n v : ℕ) → p + n ≤ length f → Bytes f → putBits f (8 * p) (bits (8 * n) v) ≡ stored f p n v
 put-stored f p n v h b =

@@ -4,3 +4,4 @@ pub mod Fields
 pub mod Places
 pub mod Words
 pub mod Laws
+pub mod Raw

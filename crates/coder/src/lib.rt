@@ -2,6 +2,7 @@
 pub mod coder;
 pub mod delta;
 pub mod form;
+pub mod laws;
 pub mod modular;
 pub mod step;
 pub mod steps;

@@ -27,3 +27,7 @@ held file place word have = putBits file (8 * place) (bits have word)
 -- the bit behind those that wait
 abbrev pub heldEnd : ℕ → ℕ → ℕ
 heldEnd place have = 8 * place + have
+
+-- a raw word: one to four bytes, all of them within so many
+abbrev pub isRaw : ℕ → ℕ → ℕ → Bool
+isRaw at k size = cond (leb 1 k) (cond (leb k 4) (leb (at + k) size) false) false

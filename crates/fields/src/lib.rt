@@ -4,4 +4,5 @@ pub mod clear;
 pub mod field;
 pub mod part;
 pub mod place;
+pub mod raw;
 mod word;

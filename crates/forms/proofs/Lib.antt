@@ -3,6 +3,8 @@ pub mod Rules
 pub mod Changes
 pub mod Coders
 pub mod Blocks
+pub mod Laws
+pub mod Bench
 pub mod Reading
 pub mod Plain
 pub mod Windows

@@ -7,11 +7,9 @@ use crate::coder::Coder;
 // and what is written and read is as the forms say.
 pub fn coder_laws<C: Coder>()
     ensures { λ _. ⌜ ((c : C) → Coder-laws (C·Coder .wide c) (C·Coder .coding c)) ⌝ }
-{
-}
+{}
 
 // The worked cases of reduced binary, turn and delta.
 pub fn worked_cases()
     ensures { λ _. ⌜ All-hold cases ⌝ }
-{
-}
+{}

@@ -7,11 +7,11 @@ ghost use lib.ListN.{length};
 ghost use Rattle.std.specs.Options.{Cases};
 ghost use Rattle.bits.specs.Bits.{bits, putBits};
 ghost use Rattle.fields.specs.Fields.{isField, held, heldEnd};
+use crate::bytes::are_bytes;
 use crate::place::BitPlace;
 use crate::word::lies_within;
 use crate::word::low;
 use crate::word::put_by_bytes;
-use crate::word::seen;
 use crate::word::store;
 
 // The bits that wait, `have` of them in `word`; the first belongs at the byte `place`.
@@ -30,7 +30,7 @@ impl Accumulator {
     pub fn start(buffer: &[u8], at: BitPlace) -> Option<Accumulator>
         ensures { λ r. ⌜ Cases r (8 * length (now (buffer .entry)) < at .bits) (λ a. (held (now (buffer .entry)) (a .place) (a .word) (a .have) ≡ now (buffer .entry)) × (heldEnd (a .place) (a .have) ≡ at .bits)) ⌝ }
     {
-        seen(buffer);
+        are_bytes(buffer);
         let at = at.bits();
         if !lies_within(at, 0, buffer.len()) {
             return None;
@@ -56,7 +56,7 @@ impl Accumulator {
         if count > 64 || !reaches(self.place, self.have + count, buffer.len()) {
             return false;
         }
-        seen(buffer);
+        are_bytes(buffer);
         let new = low(value, count);
         let word = self.word | (new << self.have);
         let have = self.have + count;

@@ -69,7 +69,7 @@ fn word_at(file: &[u8], at: usize) -> u64
     if p + 9 <= file.len() {
         (load(file, p) >> shift) | (((file[p + 8] as u64) << 1) << (63 - shift))
     } else {
-        take_by_bytes(file, p, shift, 64)
+        take_by_bytes(&file[0..], p, shift, 64)
     }
 }
 

@@ -6,8 +6,8 @@ ghost use lib.Dec.{eqb, leb};
 ghost use lib.ListN.{length};
 ghost use Rattle.std.specs.declared.option.Option.the-variants.{Some, None};
 ghost use Rattle.bits.specs.Bits.{bits, bytes, putBits, fieldAt};
+use crate::bytes::are_bytes;
 use crate::place::BytePlace;
-use crate::word::seen;
 
 // Writes a number into a part of four bytes. False, and nothing is written, where the part has another length.
 pub fn write_u32(part: &mut [u8], value: u32) -> bool
@@ -36,7 +36,7 @@ pub fn put_u32(buffer: &mut [u8], at: BytePlace, value: u32) -> bool
     ensures put { λ r. ⌜ r ≡ leb (at .bytes + 4) (length (now (buffer .entry))) ⌝ }
     ensures bytes { λ _. ⌜ now (buffer .exit) ≡ cond (leb (at .bytes + 4) (length (now (buffer .entry)))) (putBits (now (buffer .entry)) (8 * at .bytes) (bits 32 value)) (now (buffer .entry)) ⌝ }
 {
-    seen(buffer);
+    are_bytes(buffer);
     let p = at.bytes();
     if p >= buffer.len() || buffer.len() - p < 4 {
         return false;

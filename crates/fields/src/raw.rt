@@ -6,8 +6,8 @@ ghost use lib.ListN.{length};
 ghost use Rattle.std.specs.declared.option.Option.the-variants.{Some, None};
 ghost use Rattle.bits.specs.Bits.{bits, putBits, fieldAt};
 ghost use Rattle.fields.specs.Fields.{isRaw};
+use crate::bytes::are_bytes;
 use crate::place::BytePlace;
-use crate::word::seen;
 
 // Do so many bytes make a raw word that lies within a slice?
 fn lies_raw(at: usize, size: u32, len: usize) -> bool
@@ -40,7 +40,7 @@ pub fn put_raw_word(raw: &mut [u8], at: BytePlace, word: u32, size: u32) -> bool
     ensures put { λ r. ⌜ r ≡ isRaw (at .bytes) size (length (now (raw .entry))) ⌝ }
     ensures bytes { λ _. ⌜ now (raw .exit) ≡ cond (isRaw (at .bytes) size (length (now (raw .entry)))) (putBits (now (raw .entry)) (8 * at .bytes) (bits (8 * size) word)) (now (raw .entry)) ⌝ }
 {
-    seen(raw);
+    are_bytes(raw);
     let p = at.bytes();
     if !lies_raw(p, size, raw.len()) {
         return false;

@@ -2,17 +2,8 @@
 ghost use mathlib.Core.Path.{_≡_};
 ghost use Prim.Native.Nat.{ℕ, _+_, _*_, _/_, _%_, _^_, _<_, _≤_};
 ghost use lib.ListN.{length, replicate};
-ghost use Rattle.bits.specs.Bits.{bits, bitsOf, overwritten, stored, fieldAt, Bytes};
+ghost use Rattle.bits.specs.Bits.{bits, bitsOf, overwritten, stored, fieldAt};
 ghost use Rattle.fields.specs.Fields.{within};
-
-// That each element of a slice of bytes is below 256: where one is read, the check knows it of all.
-pub(crate) fn seen(file: &[u8])
-    ensures { λ _. ⌜ Bytes (now (file .entry)) ⌝ }
-{
-    if file.len() > 0 {
-        let _first = file[0];
-    }
-}
 
 // Do the bits lie within so many bytes?
 pub(crate) fn lies_within(at: usize, count: u32, size: usize) -> bool

@@ -28,9 +28,9 @@ module _ {M : Type 0} {w : ℕ} (C : Coding M) (sound : Sound w C) where
   ends-within : (m : M) (bs : List Bool) → walk (C .code m) bs ≡ short → Partial (Means (C .code m)) bs
   ends-within m bs e = ⊎-elim
       (λ (o : Exactly-one (Means (C .code m)) bs).
-        let (s, v, (r, h, d), _) = o in
-        let z : form v (length s) ≡ short = sym (walk-form (C .code m) s r v h) ∙ ap (walk (C .code m)) (sym d) ∙ e in
-        let q : _≡_ {A = ℕ} 0 1 = cc in absurd (omega arith))
+      let (s, v, (r, h, d), _) = o in
+      let z : form v (length s) ≡ short = sym (walk-form (C .code m) s r v h) ∙ ap (walk (C .code m)) (sym d) ∙ e in
+      let q : _≡_ {A = ℕ} 0 1 = cc in absurd (omega arith))
       (λ p. p)
       (remaining (sound m) bs .0)
 

@@ -13,10 +13,10 @@ use Rattle.std.specs.declared.option.Option.the-variants.{Some, None}
 use Rattle.bits.specs.Bits.{bits, bitsOf, fieldAt}
 use Rattle.bits.proofs.Numbers.{length-bits, bits-number-at}
 use Rattle.bits.proofs.Files.{length-bitsOf}
-use Rattle.forms.specs.Code.{Code, Means, walk, formOf}
+use Rattle.forms.specs.Code.{Code, Means, Found, form, short, walk, formOf}
 use Rattle.forms.specs.Rules.{Rules}
-use Rattle.forms.specs.Coding.{Coding, Sound, behind, encoded, told, decoded}
-use Rattle.forms.proofs.Codes.{walk-form, formOf-means, none-some, some-same}
+use Rattle.forms.specs.Coding.{Coding, Sound, behind, encoded, word, told, decoded}
+use Rattle.forms.proofs.Codes.{walk-form, walk-means, formOf-means, none-some, some-same}
 
 -- the bits of a window are the next 64, or those that there are
 window-bits : (f : List ℕ) (at : ℕ) → bits (min 64 (8 * length f - at)) (fieldAt f at 64) ≡ take 64 (drop at (bitsOf f))
@@ -59,3 +59,17 @@ encoded-means {M} C m x s k e = go (formOf (C .code m) x) refl e
 -- is short
 pub encoded-short : {M : Type 0} {w : ℕ} (C : Coding M) → Sound w C → (m : M) (x : ℕ) (n v : ℕ) (k : M) → Some (bits n v, k) ≡ encoded C m x → n ≤ 64
 encoded-short C K m x n v k e = subst (λ (j : ℕ). j ≤ 64) (length-bits n v) (K m .short _ _ (encoded-means C m x (bits n v) k (sym e) .0))
+
+-- a form that was read is short
+pub decoded-short : {M : Type 0} {w : ℕ} (C : Coding M) → Sound w C → (m : M) (bs : List Bool) (x n : ℕ) (k : M) → word x n k ≡ decoded C m bs → n ≤ 64
+unfolding decoded
+decoded-short {M} {w} C K m bs x n k e = go (walk (C .code m) bs) refl e
+  where
+    go : (o : Found) → walk (C .code m) bs ≡ o → word x n k ≡ told (C .after m) o → n ≤ 64
+    go (form (Some y) j) a d =
+        let i : j ≡ n = cc in
+        let (b, h) = walk-means (C .code m) bs (Some y) j a in
+        let l : length (take j bs) ≤ 64 = K m .short _ _ h in
+        omega (arith, length-take j bs)
+    go (form None j) a d = let z : _≡_ {A = ℕ} 0 1 = cc in absurd (omega arith)
+    go short a d = let z : _≡_ {A = ℕ} 0 1 = cc in absurd (omega arith)

@@ -30,12 +30,12 @@ All-hold (c ∷ cs) = Holds c × All-hold cs
 abbrev pub cases : List Case
 cases =
     writes 8 3 10 16 3 6
-  ∷ writes 8 3 10 17 11 (17 * 8 + 7)
-  ∷ dies 8 3 10 11 (12 * 8 + 7)
-  ∷ writes 8 3 254 4 3 6
-  ∷ writes 8 3 254 5 11 (5 * 8 + 7)
-  ∷ writes 8 8 0 255 16 (255 * 256 + 255)
-  ∷ turns 32 8 0x87f71300 0x0087f713
-  ∷ differs 8 0 5 5
-  ∷ differs 8 5 3 254
-  ∷ []
+    ∷ writes 8 3 10 17 11 (17 * 8 + 7)
+    ∷ dies 8 3 10 11 (12 * 8 + 7)
+    ∷ writes 8 3 254 4 3 6
+    ∷ writes 8 3 254 5 11 (5 * 8 + 7)
+    ∷ writes 8 8 0 255 16 (255 * 256 + 255)
+    ∷ turns 32 8 0x87f71300 0x0087f713
+    ∷ differs 8 0 5 5
+    ∷ differs 8 5 3 254
+    ∷ []

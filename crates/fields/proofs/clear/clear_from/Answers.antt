@@ -10,7 +10,7 @@ use Rattle.bits.proofs.Laws.{clear-none, clear-within}
 use Rattle.fields.proofs.clear.clear_from.Needs as need
 
 pub returns-then-p-buffer : need.returns-then-p-buffer
-returns-then-p-buffer c = clear-none (c .args .buffer .now) (c .args .at .bits) (omega arith) (c .seen .ensures)
+returns-then-p-buffer c = clear-none (c .args .buffer .now) (c .args .at .bits) (omega arith) (c .are-bytes .ensures)
 
 -- a tail that was lent, put back, stands after the first `a`
 back : (a : ℕ) (xs ys : List ℕ) → putMid a (length xs - a) xs ys ≡ take a xs ++ ys
@@ -26,4 +26,4 @@ returns c =
     c .zero .ensures ∙ ap (λ (k : ℕ). replicate k 0) (ap length (take-rest g (p + 1)) ∙ length-drop (p + 1) g ∙ ap (λ k. k - (p + 1)) (length-set f p (c .low .result))) in
     let b : putMid (p + 1) (length g - (p + 1)) g (c .zero .last .part) ≡ take (p + 1) g ++ replicate (length f - (p + 1)) 0 = back (p + 1) g (c .zero .last .part) ∙ ap (λ z. take (p + 1) g ++ z) z in
     let i : 8 * p + at % 8 ≡ c .args .at .bits = omega (arith, c .bits-at .ensures) in
-    clear-within f (putMid (p + 1) (length g - (p + 1)) g (c .zero .last .part)) p (at % 8) (c .low .result) (omega arith) (omega arith) (c .seen .ensures) (c .low .ensures) b ∙ ap (clearedFrom f) i
+    clear-within f (putMid (p + 1) (length g - (p + 1)) g (c .zero .last .part)) p (at % 8) (c .low .result) (omega arith) (omega arith) (c .are-bytes .ensures) (c .low .ensures) b ∙ ap (clearedFrom f) i

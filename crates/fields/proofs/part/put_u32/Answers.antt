@@ -24,6 +24,6 @@ returns c =
     let p : ℕ = c .bytes-p .result in
     let l : length (take (p + 4 - p) (drop p f)) ≡ 4 = simp (length-take, length-drop) (omega arith) in
     let w : c .write-u32 .last .part ≡ bytes 4 (bits 32 (c .args .value)) = let y = c .write-u32 .ensures .bytes in grind (arith, tells) in
-    let e : putMid p (p + 4 - p) f (c .write-u32 .last .part) ≡ putBits f (8 * p) (bits 32 (c .args .value)) = back f (c .write-u32 .last .part) p (p + 4 - p) (c .args .value) (omega arith) (omega arith) (c .seen .ensures) w in
+    let e : putMid p (p + 4 - p) f (c .write-u32 .last .part) ≡ putBits f (8 * p) (bits 32 (c .args .value)) = back f (c .write-u32 .last .part) p (p + 4 - p) (c .args .value) (omega arith) (omega arith) (c .are-bytes .ensures) w in
     let u = c .write-u32 .ensures .written in
     record { put = grind (arith, tells); bytes = grind (arith, tells) }

@@ -33,8 +33,8 @@ returns c =
     let t : true ≡ isRaw (c .args .at .bytes) n (length f) = sym (c .if-not-lies-raw .left) ∙ c .lies-raw .ensures ∙ ap (λ z. isRaw z n (length f)) (c .bytes-p .ensures) in
     let w : c .to-le-bytes-bytes .result ≡ bytes 4 (bits 32 (c .args .word)) = c .to-le-bytes-bytes .ensures ∙ sym (bytes-four (c .args .word)) in
     let e : putMid p (p + n - p) f ys ≡ putBits f (8 * p) (bits (8 * n) (c .args .word)) =
-        back f ys (c .to-le-bytes-bytes .result) p n (p + n - p) (c .args .word) (omega arith) b h (c .seen .ensures) w (c .copy-from-slice .ensures .after) in
+    back f ys (c .to-le-bytes-bytes .result) p n (p + n - p) (c .args .word) (omega arith) b h (c .are-bytes .ensures) w (c .copy-from-slice .ensures .after) in
     record {
       put = t;
-      bytes = e ∙ ap (λ z. putBits f (8 * z) (bits (8 * n) (c .args .word))) (c .bytes-p .ensures) ∙ ap (λ z. cond z (putBits f (8 * c .args .at .bytes) (bits (8 * n) (c .args .word))) f) t
+      bytes = e ∙ ap (λ z. putBits f (8 * z) (bits (8 * n) (c .args .word))) (c .bytes-p .ensures) ∙ ap (λ z. cond z (putBits f (8 * c .args .at .bytes) (bits (8 * n) (c .args .word))) f) t;
     }

@@ -80,7 +80,7 @@ returns c =
     let s : g ≡ stored f p 8 (bitOr w ((v % 2 ^ n * 2 ^ have) % 2 ^ 64)) = c .store .ensures ∙ ap (λ z. stored f p 8 (bitOr w ((z * 2 ^ have) % 2 ^ 64))) e in
     record {
       pushed = is-field (8 * p + have) n (length f) (omega arith) fit;
-      held = full-put w have v n (c .args .self .now .clean) (c .args .self .now .few) (omega arith) f g p r (c .seen .ensures) (omega arith) fit s rest;
+      held = full-put w have v n (c .args .self .now .clean) (c .args .self .now .few) (omega arith) f g p r (c .are-bytes .ensures) (omega arith) fit s rest;
       end = omega arith;
       refused = λ z. let q : _≡_ {A = ℕ} 0 1 = cc in absurd (omega arith);
     }

@@ -23,7 +23,7 @@ returns c =
     let fit : at + 0 ≤ 8 * length f = leb-true (at + 0) (8 * length f) (sym (c .lies-within .ensures) ∙ c .if-not-lies-within .left) in
     let e = c .bits-at .ensures in
     let s : putBits f (8 * (at / 8)) (bits (at % 8) (c .if-have-eq0 .word)) ≡ f = elim (c .if-have-eq0 .came) [
-      | then-have-eq0 x ↦ no-bits f (8 * (at / 8)) (at % 8) (c .if-have-eq0 .word) (x .if-have-eq0 .taken) (c .seen .ensures)
-      | else-have-eq0 x ↦ put-low f (at / 8) (at % 8) (c .if-have-eq0 .word) (omega arith) (omega arith) (c .seen .ensures) (x .word-is ∙ x .low-word .ensures)
+      | then-have-eq0 x ↦ no-bits f (8 * (at / 8)) (at % 8) (c .if-have-eq0 .word) (x .if-have-eq0 .taken) (c .are-bytes .ensures)
+      | else-have-eq0 x ↦ put-low f (at / 8) (at % 8) (c .if-have-eq0 .word) (omega arith) (omega arith) (c .are-bytes .ensures) (x .word-is ∙ x .low-word .ensures)
     ] in
     (s, omega arith)

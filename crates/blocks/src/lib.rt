@@ -1,0 +1,2 @@
+// Blocks of words over any coder.
+pub mod block;

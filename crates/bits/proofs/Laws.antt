@@ -17,6 +17,10 @@ pub Bytes-bytesOf : (bs : List Bool) → Bytes (bytesOf bs)
 unfolding bytesOf
 Bytes-bytesOf bs = bytes-Bytes ((length bs + 7) / 8) bs
 
+pub length-bytesOf : (bs : List Bool) → length (bytesOf bs) ≡ (length bs + 7) / 8
+unfolding bytesOf
+length-bytesOf bs = length-bytes ((length bs + 7) / 8) bs
+
 pub Bytes-putBits : (f : List ℕ) (at : ℕ) (bs : List Bool) → Bytes (putBits f at bs)
 unfolding putBits
 Bytes-putBits f at bs = Bytes-bytesOf (overwritten (bitsOf f) at bs)

@@ -1,2 +1,4 @@
 pub mod Folds
 pub mod Packing
+pub mod Unpacking
+pub mod Exact

@@ -4,6 +4,7 @@ ghost use Prim.Native.Nat.{ℕ, _+_, _*_, _/_, _≤_};
 ghost use lib.ListN.{length, take};
 ghost use Rattle.std.specs.Options.{Cases};
 ghost use Rattle.std.specs.declared.option.Option.the-variants.{Some};
+ghost use Rattle.std.specs.declared.result.Result.the-variants.{Ok};
 ghost use Rattle.bits.specs.Bits.{fieldAt};
 ghost use Rattle.bits.specs.Raw.{rawWords};
 ghost use Rattle.forms.specs.Blocks.{blockBits, Apart};
@@ -97,8 +98,8 @@ fn lay<C: Coder>(coder: &C, raw: &[u8], count: usize, len: usize, out: &mut [u8]
     waiting.finish(out);
 }
 
-// Packs raw words, low byte first, into a block at the front of `out`, and answers how many bits it has.
-pub fn pack<C: Coder>(coder: &C, raw: &[u8], out: &mut [u8]) -> Result<usize, Fault>
+// Packs words that are raw bytes.
+fn pack_words<C: Coder>(coder: &C, raw: &[u8], out: &mut [u8]) -> Result<usize, Fault>
     ensures answer { λ r. ⌜ answered (λ n. n) r ≡ packAnswer (bytesPer (C·Coder .wide (now (coder .entry)))) (C·Coder .coding (now (coder .entry))) (now (raw .entry)) (length (now (out .entry))) ⌝ }
     ensures bytes { λ _. ⌜ now (out .exit) ≡ packBytes (bytesPer (C·Coder .wide (now (coder .entry)))) (C·Coder .coding (now (coder .entry))) (now (raw .entry)) (now (out .entry)) ⌝ }
 {
@@ -158,4 +159,58 @@ fn unpack<C: Coder>(coder: &C, block: &[u8], count: usize, out: &mut [u8])
             }
         }
     }
+}
+
+// Reads words and writes them as raw bytes.
+fn read_words<C: Coder>(
+    coder: &C,
+    block: &[u8],
+    count: usize,
+    out: &mut [u8],
+) -> Result<usize, Fault>
+    ensures answer { λ r. ⌜ answered (λ n. n) r ≡ readAnswer (bytesPer (C·Coder .wide (now (coder .entry)))) (C·Coder .coding (now (coder .entry))) (now (block .entry)) count (length (now (out .entry))) ⌝ }
+    ensures bytes { λ _. ⌜ now (out .exit) ≡ readBytes (bytesPer (C·Coder .wide (now (coder .entry)))) (C·Coder .coding (now (coder .entry))) (now (block .entry)) count (now (out .entry)) ⌝ }
+{
+    are_bytes(out);
+    if count > MOST_WORDS {
+        return Err(at_start(Kind::OverLimit));
+    }
+    let size = word_size(coder) as usize;
+    if size * count > out.len() {
+        return Err(at_start(Kind::OutputTooShort));
+    }
+    match scan(coder, block, count) {
+        Err(fault) => Err(fault),
+        Ok(end) => {
+            if end.whole_byte().bytes() < block.len() {
+                return Err(Fault {
+                    kind: Kind::TrailingBytes,
+                    place: end,
+                });
+            }
+            unpack(coder, block, count, out);
+            Ok(count)
+        }
+    }
+}
+
+// Packs raw words, low byte first, into a block at the front of `out`, and answers how many bits it has.
+// A fault writes nothing, and what lies past the block stays.
+pub fn pack<C: Coder>(coder: &C, raw: &[u8], out: &mut [u8]) -> Result<usize, Fault>
+    ensures answer { λ r. ⌜ answered (λ n. n) r ≡ packAnswer (bytesPer (C·Coder .wide (now (coder .entry)))) (C·Coder .coding (now (coder .entry))) (now (raw .entry)) (length (now (out .entry))) ⌝ }
+    ensures bytes { λ _. ⌜ now (out .exit) ≡ packBytes (bytesPer (C·Coder .wide (now (coder .entry)))) (C·Coder .coding (now (coder .entry))) (now (raw .entry)) (now (out .entry)) ⌝ }
+    ensures apart { λ _. ⌜ ((m : C·Memory) → Apart (C·Coder .coding (now (coder .entry))) m) ⌝ }
+    ensures back { λ r. ⌜ ((n : ℕ) → r ≡ Ok n → readWords (C·Coder .coding (now (coder .entry))) (C·Coder .coding (now (coder .entry)) .start) (take ((n + 7) / 8) (now (out .exit))) 0 (length (wordsIn (bytesPer (C·Coder .wide (now (coder .entry)))) (now (raw .entry)))) ≡ gives (wordsIn (bytesPer (C·Coder .wide (now (coder .entry)))) (now (raw .entry)), n)) ⌝ }
+{
+    pack_words(coder, raw, out)
+}
+
+// Reads so many words from a block and writes them to the front of `out`, low byte first; answers their number.
+// Pad bits are not judged. A fault writes nothing, and what lies past the words stays.
+pub fn read<C: Coder>(coder: &C, block: &[u8], count: usize, out: &mut [u8]) -> Result<usize, Fault>
+    ensures answer { λ r. ⌜ answered (λ n. n) r ≡ readAnswer (bytesPer (C·Coder .wide (now (coder .entry)))) (C·Coder .coding (now (coder .entry))) (now (block .entry)) count (length (now (out .entry))) ⌝ }
+    ensures bytes { λ _. ⌜ now (out .exit) ≡ readBytes (bytesPer (C·Coder .wide (now (coder .entry)))) (C·Coder .coding (now (coder .entry))) (now (block .entry)) count (now (out .entry)) ⌝ }
+    ensures exact { λ _. ⌜ ((m : C·Memory) → Reads-exactly (C·Coder .coding (now (coder .entry))) m (now (block .entry)) count) ⌝ }
+{
+    read_words(coder, block, count, out)
 }

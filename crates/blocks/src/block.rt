@@ -3,6 +3,7 @@ ghost use mathlib.Core.Path.{_≡_};
 ghost use Prim.Native.Nat.{ℕ, _+_, _*_, _/_, _≤_};
 ghost use lib.ListN.{length, take};
 ghost use Rattle.std.specs.Options.{Cases};
+ghost use Rattle.std.specs.Vec.{made};
 ghost use Rattle.std.specs.declared.option.Option.the-variants.{Some};
 ghost use Rattle.std.specs.declared.result.Result.the-variants.{Ok};
 ghost use Rattle.bits.specs.Bits.{fieldAt};
@@ -102,6 +103,7 @@ fn lay<C: Coder>(coder: &C, raw: &[u8], count: usize, len: usize, out: &mut [u8]
 fn pack_words<C: Coder>(coder: &C, raw: &[u8], out: &mut [u8]) -> Result<usize, Fault>
     ensures answer { λ r. ⌜ answered (λ n. n) r ≡ packAnswer (bytesPer (C·Coder .wide (now (coder .entry)))) (C·Coder .coding (now (coder .entry))) (now (raw .entry)) (length (now (out .entry))) ⌝ }
     ensures bytes { λ _. ⌜ now (out .exit) ≡ packBytes (bytesPer (C·Coder .wide (now (coder .entry)))) (C·Coder .coding (now (coder .entry))) (now (raw .entry)) (now (out .entry)) ⌝ }
+    ensures most { λ r. ⌜ made r (λ n. n ≤ 4194304) ⌝ }
 {
     let size = word_size(coder) as usize;
     if raw.len() % size != 0 {
@@ -170,6 +172,7 @@ fn read_words<C: Coder>(
 ) -> Result<usize, Fault>
     ensures answer { λ r. ⌜ answered (λ n. n) r ≡ readAnswer (bytesPer (C·Coder .wide (now (coder .entry)))) (C·Coder .coding (now (coder .entry))) (now (block .entry)) count (length (now (out .entry))) ⌝ }
     ensures bytes { λ _. ⌜ now (out .exit) ≡ readBytes (bytesPer (C·Coder .wide (now (coder .entry)))) (C·Coder .coding (now (coder .entry))) (now (block .entry)) count (now (out .entry)) ⌝ }
+    ensures most { λ r. ⌜ made r (λ n. n ≤ 65536) ⌝ }
 {
     are_bytes(out);
     if count > MOST_WORDS {
@@ -201,6 +204,7 @@ pub fn pack<C: Coder>(coder: &C, raw: &[u8], out: &mut [u8]) -> Result<usize, Fa
     ensures bytes { λ _. ⌜ now (out .exit) ≡ packBytes (bytesPer (C·Coder .wide (now (coder .entry)))) (C·Coder .coding (now (coder .entry))) (now (raw .entry)) (now (out .entry)) ⌝ }
     ensures apart { λ _. ⌜ ((m : C·Memory) → Apart (C·Coder .coding (now (coder .entry))) m) ⌝ }
     ensures back { λ r. ⌜ ((n : ℕ) → r ≡ Ok n → readWords (C·Coder .coding (now (coder .entry))) (C·Coder .coding (now (coder .entry)) .start) (take ((n + 7) / 8) (now (out .exit))) 0 (length (wordsIn (bytesPer (C·Coder .wide (now (coder .entry)))) (now (raw .entry)))) ≡ gives (wordsIn (bytesPer (C·Coder .wide (now (coder .entry)))) (now (raw .entry)), n)) ⌝ }
+    ensures most { λ r. ⌜ made r (λ n. n ≤ 4194304) ⌝ }
 {
     pack_words(coder, raw, out)
 }
@@ -211,6 +215,7 @@ pub fn read<C: Coder>(coder: &C, block: &[u8], count: usize, out: &mut [u8]) -> 
     ensures answer { λ r. ⌜ answered (λ n. n) r ≡ readAnswer (bytesPer (C·Coder .wide (now (coder .entry)))) (C·Coder .coding (now (coder .entry))) (now (block .entry)) count (length (now (out .entry))) ⌝ }
     ensures bytes { λ _. ⌜ now (out .exit) ≡ readBytes (bytesPer (C·Coder .wide (now (coder .entry)))) (C·Coder .coding (now (coder .entry))) (now (block .entry)) count (now (out .entry)) ⌝ }
     ensures exact { λ _. ⌜ ((m : C·Memory) → Reads-exactly (C·Coder .coding (now (coder .entry))) m (now (block .entry)) count) ⌝ }
+    ensures most { λ r. ⌜ made r (λ n. n ≤ 65536) ⌝ }
 {
     read_words(coder, block, count, out)
 }

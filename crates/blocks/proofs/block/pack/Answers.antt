@@ -16,4 +16,5 @@ returns g c =
       bytes = c .pack-words .ensures .bytes;
       apart = apart C K;
       back = λ n e. packed-back k C K (c .args .raw .now) (c .args .out .now) (c .pack-words .last .out) n (sym (ap (answered (λ z. z)) e) ∙ c .pack-words .ensures .answer) (c .pack-words .ensures .bytes);
+      most = c .pack-words .ensures .most;
     }

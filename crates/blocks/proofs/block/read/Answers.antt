@@ -7,4 +7,5 @@ returns g c =
       answer = c .read-words .ensures .answer;
       bytes = c .read-words .ensures .bytes;
       exact = λ m. reads-exactly (g .C·Coder .coding (c .args .coder .now)) (g .C·Coder .sound (c .args .coder .now)) (c .args .block .now) m (c .args .count);
+      most = c .read-words .ensures .most;
     }

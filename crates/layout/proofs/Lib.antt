@@ -1,0 +1,11 @@
+pub mod Counting
+pub mod Parts
+pub mod Codes
+pub mod Ends
+pub mod Stands
+pub mod Building
+pub mod Spots
+pub mod PlainParts
+pub mod PlainSections
+pub mod Validity
+pub mod Example

@@ -9,9 +9,9 @@ use Rattle.std.proofs.shelf.Lists.{at-drop-more, at-drop-all}
 use Rattle.std.specs.Options.{isSome, mapped}
 use Rattle.std.specs.declared.option.Option.{Option}
 use Rattle.std.specs.declared.option.Option.the-variants.{Some, None}
-use native.Mathlib.Nat.{mul-le-mul-left, mul-comm, mul-add}
+use native.Mathlib.Nat.{mul-le-mul-left}
 use Rattle.std.proofs.shelf.Ways.{tells}
-use Rattle.fields.specs.Fields.{isField, isRaw}
+use Rattle.fields.specs.Fields.{isField}
 use Rattle.std.proofs.shelf.Tests.{le-leb}
 use lib.Dec.{leb}
 use Rattle.blocks.specs.Blocks.{over}
@@ -196,16 +196,8 @@ taken-short {M} C K m f at x l k e = go (decoded C m (drop at (bitsOf f))) refl 
     go partial a d = let z : _≡_ {A = ℕ} 0 1 = cc in absurd (omega arith)
 
 -- a raw word put at its index
-pub raw-put : (k i n size q x : ℕ) (out new : List ℕ) → size ≡ k → 1 ≤ size → size ≤ 4 → i < n → k * n ≤ length out → q ≡ i * size →
-    new ≡ cond (isRaw q size (length out)) (putBits out (8 * q) (bits (8 * size) x)) out → new ≡ putBits out (8 * (k * i)) (bits (8 * k) x)
-raw-put k i n size q x out new e a b h l d w =
-    let r : q ≡ k * i = d ∙ ap (λ z. i * z) e ∙ mul-comm i k in
-    let m : k * i + k ≤ length out = omega (arith, index-within k i n k (length out) refl h l, mul-add k i 1) in
-    let t : isRaw q size (length out) ≡ true = ap (λ z. isRaw z size (length out)) r ∙ ap (λ z. isRaw (k * i) z (length out)) e ∙ raw-there (k * i) k (length out) (rw (← e) a) (rw (← e) b) m in
-    w ∙ ap (λ z. cond z (putBits out (8 * q) (bits (8 * size) x)) out) t ∙ ap (λ z. putBits out (8 * z) (bits (8 * size) x)) r ∙ ap (λ z. putBits out (8 * (k * i)) (bits (8 * z) x)) e
-  where
-    raw-there : (p j s : ℕ) → 1 ≤ j → j ≤ 4 → p + j ≤ s → isRaw p j s ≡ true
-    raw-there p j s a b c = grind (arith, tells)
+pub raw-put : (k i size x : ℕ) (out new : List ℕ) → size ≡ k → new ≡ putBits out (8 * (size * i)) (bits (8 * size) x) → new ≡ putBits out (8 * (k * i)) (bits (8 * k) x)
+raw-put k i size x out new e w = w ∙ ap (λ z. putBits out (8 * (z * i)) (bits (8 * z) x)) e
 
 -- ## Laying, with the bits that wait
 

@@ -6,7 +6,7 @@ ghost use Rattle.std.specs.Options.{Cases};
 ghost use Rattle.std.specs.Vec.{made};
 ghost use Rattle.std.specs.declared.option.Option.the-variants.{Some};
 ghost use Rattle.std.specs.declared.result.Result.the-variants.{Ok};
-ghost use Rattle.bits.specs.Bits.{fieldAt};
+ghost use Rattle.bits.specs.Bits.{bits, putBits, fieldAt};
 ghost use Rattle.bits.specs.Raw.{rawWords};
 ghost use Rattle.forms.specs.Blocks.{blockBits, Apart};
 ghost use Rattle.faults.specs.Faults.{answered, gives};
@@ -40,7 +40,20 @@ fn word_at(raw: &[u8], index: usize, size: u32) -> u32
     requires { ⌜ 1 ≤ size ⌝ ∗ ⌜ size ≤ 4 ⌝ ∗ ⌜ size * (index + 1) ≤ length (now raw) ⌝ }
     ensures { λ r. ⌜ r ≡ fieldAt (now (raw .entry)) (8 * (size * index)) (8 * size) ⌝ }
 {
-    raw_word(raw, BytePlace::new(index * size as usize), size).unwrap_or(0)
+    let n = size as usize;
+    let p = index * n;
+    raw_word(&raw[p..p + n], BytePlace::new(0), size).unwrap_or(0)
+}
+
+// Writes a word at an index of raw bytes, `size` bytes each.
+fn put_word_at(raw: &mut [u8], index: usize, word: u32, size: u32)
+    requires { ⌜ 1 ≤ size ⌝ ∗ ⌜ size ≤ 4 ⌝ ∗ ⌜ size * (index + 1) ≤ length (now raw) ⌝ }
+    ensures { λ _. ⌜ now (raw .exit) ≡ putBits (now (raw .entry)) (8 * (size * index)) (bits (8 * size) word) ⌝ }
+{
+    are_bytes(raw);
+    let n = size as usize;
+    let p = index * n;
+    put_raw_word(&mut raw[p..p + n], BytePlace::new(0), word, size);
 }
 
 // How many bytes a raw word has.
@@ -134,7 +147,7 @@ fn scan<C: Coder>(coder: &C, block: &[u8], count: usize) -> Result<BitPlace, Fau
         match take_word(coder, memory, block, at) {
             Err(fault) => return Err(fault),
             Ok(taken) => {
-                at = at.plus(taken.len as usize);
+                at = BitPlace::new(at.bits() + taken.len as usize);
                 memory = taken.next;
             }
         }
@@ -155,8 +168,8 @@ fn unpack<C: Coder>(coder: &C, block: &[u8], count: usize, out: &mut [u8])
         match take_word(coder, memory, block, at) {
             Err(_) => return,
             Ok(taken) => {
-                put_raw_word(out, BytePlace::new(i * size as usize), taken.word, size);
-                at = at.plus(taken.len as usize);
+                put_word_at(out, i, taken.word, size);
+                at = BitPlace::new(at.bits() + taken.len as usize);
                 memory = taken.next;
             }
         }

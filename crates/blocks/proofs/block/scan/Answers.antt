@@ -31,7 +31,7 @@ loop-i-again g c =
     let n : ℕ = c .args .count in
     let t = c .in-Ok .taken in
     let s : t .len ≤ 64 = taken-short C (g .C·Coder .sound (c .args .coder .now)) (c .loop-i .memory) f (c .loop-i .at .bits) (t .word) (t .len) (t .next) (c .in-Ok .ensures tt) in
-    let p : c .plus-at .result .bits ≡ c .loop-i .at .bits + t .len = omega (arith, s, c .plus-at .ensures, c .loop-i .inv .1) in (
+    let p : c .new-at-in-Ok .result .bits ≡ c .loop-i .at .bits + t .len = omega (arith, c .new-at-in-Ok .ensures, c .bits .ensures) in (
       ap (λ z. endOf (readWords C (t .next) f z (n - (i + 1)))) p
           ∙ sym (read-more C (c .loop-i .memory) f (c .loop-i .at .bits) (n - i) (n - (i + 1)) (t .word) (t .len) (t .next) (omega arith) (c .in-Ok .ensures tt))
           ∙ c .loop-i .inv .0,

@@ -102,13 +102,19 @@ after-fits s g p r v =
     }
 
 -- a number has the flags of a recording
-record Same-flags (r : Recording) (g : ℕ) : Type 0 where
-  sized : flag 0 g ≡ r .sized
-  name : flag 1 g ≡ isGiven (r .name)
-  extra : flag 2 g ≡ isGiven (r .extra)
-  pointed : flag 3 g ≡ r .pointed
-  single : flag 4 g ≡ r .single
-  unrepeated : flag 5 g ≡ r .unrepeated
+pub record Same-flags (r : Recording) (g : ℕ) : Type 0 where
+  pub sized : flag 0 g ≡ r .sized
+  pub name : flag 1 g ≡ isGiven (r .name)
+  pub extra : flag 2 g ≡ isGiven (r .extra)
+  pub pointed : flag 3 g ≡ r .pointed
+  pub single : flag 4 g ≡ r .single
+  pub unrepeated : flag 5 g ≡ r .unrepeated
+
+-- a recording's flag byte has
+pub own-flags : (r : Recording) → Same-flags r (flagByte r)
+own-flags r =
+    let b = flags-bits (r .sized) (isGiven (r .name)) (isGiven (r .extra)) (r .pointed) (r .single) (r .unrepeated) in
+    record { sized = b .zeroth; name = b .first; extra = b .second; pointed = b .third; single = b .fourth; unrepeated = b .fifth }
 
 -- then the recording is one with the number's flags
 same-recording : (r : Recording) (g : ℕ) → Same-flags r g → r ≡ record
@@ -126,7 +132,7 @@ same-recording r g f = λ i. record {
 }
 
 -- and so are the flags that sections go by
-same-flags : (r : Recording) (g : ℕ) → Same-flags r g → flagsOf r ≡ flagsIn g
+pub same-flags : (r : Recording) (g : ℕ) → Same-flags r g → flagsOf r ≡ flagsIn g
 same-flags r g f = λ i. record { pointed = sym (f .pointed) i; single = sym (f .single) i; unrepeated = sym (f .unrepeated) i }
 
 fits-after : (g p : ℕ) (r : Recording) → Same-flags r g → After-fits r → p + length (afterFlags (r .stamp) g .cells p r) ≤ 8 * mostBytes → afterFlags (r .stamp) g .Valid p r
@@ -158,7 +164,7 @@ fits-recording : (p : ℕ) (r : Recording) → r .stamp < 2 ^ 32 → After-fits 
 unfolding recording
 fits-recording p r s f m =
     let b = flags-bits (r .sized) (isGiven (r .name)) (isGiven (r .extra)) (r .pointed) (r .single) (r .unrepeated) in
-    let e : Same-flags r (flagByte r) = record { sized = b .zeroth; name = b .first; extra = b .second; pointed = b .third; single = b .fourth; unrepeated = b .fifth } in
+    let e : Same-flags r (flagByte r) = own-flags r in
     let l = b .below in
     let raw = f .chain .raw in
     let (_, m₁) = then-within _ _ p r (8 * mostBytes) m in

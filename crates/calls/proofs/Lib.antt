@@ -1,0 +1,10 @@
+pub mod Buffers
+pub mod Steady
+pub mod Pieces
+pub mod Chains
+pub mod Words
+pub mod Heads
+pub mod Keeping
+pub mod Ending
+pub mod Fills
+pub mod Law

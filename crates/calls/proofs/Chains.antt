@@ -1,23 +1,24 @@
 -- The bits of sections one behind the other, and of the whole file.
-use Prim.Native.Nat.{ℕ, zero, suc, _+_, _*_, _/_, _<_}
-use mathlib.Core.Path.{_≡_, refl, sym, ap, subst, _∙_}
+use Prim.Native.Nat.{ℕ, zero, suc, _+_, _<_}
+use mathlib.Core.Path.{_≡_, refl, sym, ap, _∙_}
 use mathlib.Core.Bool.{Bool, true, false, cond}
 use mathlib.Core.List.{List, [], _∷_, _++_, append-assoc, append-nil}
 use lib.ListN.{length, length-append}
 use native.Mathlib.Omega.{arith}
 use Rattle.std.specs.declared.option.Option.{Option}
-use Rattle.std.specs.declared.option.Option.the-variants.{Some, None}
+use Rattle.std.specs.declared.option.Option.the-variants.{Some}
 use Rattle.bits.specs.Bits.{bits}
 use Rattle.bits.proofs.Numbers.{length-bits}
 use Rattle.format.specs.Cells as cells
-use Rattle.format.specs.Cells.{Cell, filled}
+use Rattle.format.specs.Cells.{filled}
 use Rattle.format.specs.Format.{Format, field, whole, _>>=_, choose, ahead}
 use Rattle.format.proofs.Filling.{length-filled}
 use Rattle.layout.specs.Recording.{Section, Recording}
 use Rattle.layout.specs.Turns.{first, countWords, rawSize}
-use Rattle.layout.specs.Slim.{mostName, mostSections, Flags, Closing, another, ended, piece, Piece, positive, Body, closingOf, leading, rest, behind, chain, rawTotal, flag, flagByte, isGiven, flagged, nameBytes, extraBytes, afterFlags, recording}
+use Rattle.layout.specs.Slim.{mostName, mostSections, Flags, another, ended, piece, positive, Body, closingOf, behind, chain, rawTotal, flag, flagByte, isGiven, flagged, nameBytes, extraBytes, afterFlags, recording}
 use Rattle.layout.specs.Claims.{layout}
 use Rattle.layout.specs.Plain.{Every, flagsOf}
+use Rattle.layout.proofs.PlainSections.{bodyOf}
 use Rattle.layout.proofs.Validity.{Same-flags, own-flags, same-flags}
 use Rattle.calls.specs.Parts.{Marks, marksByte, nameBits, extraBits, headBits}
 use Rattle.calls.proofs.Steady.{steady-named, steady-extended}
@@ -60,9 +61,6 @@ Counted s = (n : ℕ) × (countWords (s .channels) first (rawSize s) (rawSize s)
 goes-on : (ss : List Section) (s : Section) (ls : List ℕ) → closingOf (ss ++ s ∷ []) ls ≡ another
 goes-on [] s ls = refl
 goes-on (r ∷ ss) s ls = refl
-
-abbrev bodyOf : List Section → List ℕ → Body
-bodyOf ss ls = record { sections = ss; leftovers = ls }
 
 pub chain-bits : (g : Flags) (k total p : ℕ) (ss : List Section) (s : Section) (ls : List ℕ) → length ss < k → Every Counted ss → Counted s →
     filled (chain g k total .cells p (bodyOf (ss ++ s ∷ []) ls)) ≡ closedBits g p ss ++ sectionBits g (closedEnd g p ss) s (ended ls)

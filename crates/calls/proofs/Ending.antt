@@ -1,9 +1,9 @@
 -- An accepted end leaves the file of the notebook's recording.
-use Prim.Native.Nat.{ℕ, suc, _+_, _-_, _*_, _/_, _%_, _^_, _<_, _≤_}
-use mathlib.Core.Path.{_≡_, refl, sym, ap, subst, _∙_}
+use Prim.Native.Nat.{ℕ, _+_, _-_, _*_, _/_, _<_, _≤_}
+use mathlib.Core.Path.{_≡_, sym, ap, subst, _∙_}
 use mathlib.Core.Bool.{Bool, true, false, cond}
 use mathlib.Core.List.{List, [], _∷_, _++_, append-assoc}
-use lib.ListN.{length, take, length-append, length-take}
+use lib.ListN.{length, take, length-append}
 use native.Mathlib.Nat.{le-refl}
 use native.Mathlib.Omega.{arith}
 use Rattle.std.proofs.shelf.Ways.{tells}
@@ -17,25 +17,24 @@ use Rattle.format.specs.Cells.{filled}
 use Rattle.layout.specs.Recording.{Section, Recording}
 use Rattle.layout.specs.Turns.{first, rawSize}
 use Rattle.layout.specs.Slim as slim
-use Rattle.layout.specs.Slim.{mostBytes, mostSections, chain, rawTotal, ended, isGiven}
+use Rattle.layout.specs.Slim.{mostSections, rawTotal, ended, isGiven}
 use Rattle.layout.specs.Claims.{layout, file, Valid, Gives}
-use Rattle.layout.specs.Plain.{Every, Section-fits, flagsOf, Recording-fits}
+use Rattle.layout.specs.Plain.{Every, Section-fits}
 use Rattle.layout.proofs.Spots.{word-some, inside-counted}
 use Rattle.layout.proofs.Validity.{validity-is-plain}
 use Rattle.layout.proofs.Stands.{format-stands}
 use Rattle.channel.specs.declared.record.Channel.{Channel}
 use Rattle.state.specs.declared.Flags.{Flags}
 use Rattle.state.specs.declared.Spot.{Spot}
-use Rattle.calls.specs.Parts.{Marks, marksByte, nameBits, extraBits, headBits, closingBits}
+use Rattle.calls.specs.Parts.{Marks, marksByte, nameBits, extraBits, headBits}
 use Rattle.calls.specs.Calls as calls
 use Rattle.calls.specs.Calls.{Trouble, answer, unless, marks, fieldsFilled, lastFault, sizeFilled, start}
-use Rattle.calls.specs.Runs as runs
-use Rattle.calls.specs.Runs.{Notebook, ending, closes, listed, fed, afterLast, Recorded, recording}
-use Rattle.calls.proofs.Buffers.{Filled, filled-size, put-again, cut}
-use Rattle.calls.proofs.Pieces.{endOf, sectionBits, section-length}
-use Rattle.calls.proofs.Chains.{closedBits, closedEnd, closed-length, Counted, chain-bits, marksOf, headOf, headLength, head-length, file-bits}
+use Rattle.calls.specs.Runs.{Notebook, ending, closes, fed, afterLast, Recorded, recording}
+use Rattle.calls.proofs.Buffers.{Filled, put-again, cut}
+use Rattle.calls.proofs.Pieces.{sectionBits, section-length}
+use Rattle.calls.proofs.Chains.{closedBits, closed-length, Counted, chain-bits, headLength, head-length, file-bits}
 use Rattle.calls.proofs.Words.{every-more}
-use Rattle.calls.proofs.Keeping.{flagsIn, front, frontEnd, front-length, Open, Kept, Closed-up, close-up, section-fits, total-more, listed-is}
+use Rattle.calls.proofs.Keeping.{flagsIn, frontEnd, Open, Kept, close-up, section-fits, total-more, listed-is}
 
 -- ## The size written again
 

@@ -1,8 +1,8 @@
 -- A fill is an opening and puts, and a faulted one is struck out.
-use Prim.Native.Nat.{ℕ, _+_}
+use Prim.Native.Nat.{ℕ}
 use mathlib.Core.Path.{_≡_, refl, sym, ap, subst, _∙_}
-use mathlib.Core.Bool.{Bool, true, false, cond}
-use mathlib.Core.List.{List, [], _∷_, _++_, map, append-assoc, append-nil}
+use mathlib.Core.Bool.{Bool, cond}
+use mathlib.Core.List.{List, [], _∷_, map, append-assoc, append-nil}
 use lib.ListN.{length, set}
 use Rattle.std.specs.Options.{mapped}
 use Rattle.std.specs.declared.option.Option.{Option}
@@ -15,9 +15,9 @@ use Rattle.channel.specs.declared.record.Channel.{Channel}
 use Rattle.channel.specs.Records.{rested, remembering}
 use Rattle.state.specs.declared.Edge.{Edge}
 use Rattle.state.specs.declared.Spot.{Spot}
-use Rattle.calls.specs.Calls.{Trouble, answer, unless, settings, start, section, openFault, openSpot, nextRow, coded, formIn, memoryOf, movedOn, putFault, putting, putSpot, putBytes, putTable, Putting, longer, puts, wordsOf, cutShort, earlier, laterFault, fillAnswer, fillLeaves}
+use Rattle.calls.specs.Calls.{Trouble, answer, unless, settings, start, section, openFault, openSpot, nextRow, coded, formIn, memoryOf, movedOn, putting, putSpot, putBytes, putTable, Putting, longer, puts, wordsOf, cutShort, earlier, laterFault, fillAnswer, fillLeaves}
 use Rattle.calls.specs.Runs.{Notebook, current, adding, filling, fed, afterFill}
-use Rattle.calls.proofs.Keeping.{Open, Shut, Kept, kept-open, kept-put, struck-out, moved-edge}
+use Rattle.calls.proofs.Keeping.{fresh-section, Open, Shut, Kept, kept-open, kept-put, struck-out, moved-edge}
 
 -- what words that are put leave: an open section, whose words are all of them where no fault was met
 pub record Put-on (nb : Notebook) (e : Edge) (ws : List ℕ) (p : Putting) : Type 0 where
@@ -81,9 +81,6 @@ put-on (w ∷ ws) nb s b t h =
 
 abbrev fillsBy : Option Trouble → Edge → Putting → Result (ℕ × Spot) (Edge × Trouble)
 fillsBy l e p = answer l (p .sum, p .spot) (λ f. (e, f))
-
-abbrev fresh-section : List Channel → Section
-fresh-section u = record { channels = settings u; words = [] }
 
 -- behind an accepted opening
 filled-on : (nb : Notebook) (e : Edge) (u : List Channel) (raw : List ℕ) (p : Putting) (cut : Bool) (b : List ℕ) → Shut nb e b →

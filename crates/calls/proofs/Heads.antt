@@ -1,13 +1,13 @@
 -- The bits of names, extra bytes and leftovers.
-use Prim.Native.Nat.{ℕ, zero, suc, _+_, _*_, _-_, _/_, _%_, _≤_, _<_}
+use Prim.Native.Nat.{ℕ, zero, suc, _+_, _-_, _%_, _≤_}
 use mathlib.Core.Path.{_≡_, refl, sym, ap, _∙_}
-use mathlib.Core.Bool.{Bool, true, false, not, cond, _&&_}
+use mathlib.Core.Bool.{Bool, true, false, not, cond}
 use mathlib.Core.List.{List, [], _∷_, _++_, append-assoc, append-nil}
 use lib.ListN.{length, length-append, replicate}
 use lib.Dec.{eqb, leb}
 use native.Mathlib.Omega.{arith}
 use Rattle.std.proofs.shelf.Lists.{length-replicate}
-use Rattle.std.proofs.shelf.Tests.{and-parts, ne-eqb, leb-true, false≢true}
+use Rattle.std.proofs.shelf.Tests.{and-parts, ne-eqb, leb-true}
 use Rattle.std.specs.declared.option.Option.{Option}
 use Rattle.std.specs.declared.option.Option.the-variants.{Some, None}
 use Rattle.bits.specs.Bits.{bits, bitsOf}
@@ -17,10 +17,10 @@ use Rattle.format.specs.Cells as cells
 use Rattle.format.specs.Cells.{filled}
 use Rattle.format.specs.Format.{field, whole, choose, _>>=_, _∈_, one, each, eachCells, times, gap}
 use Rattle.layout.specs.Slim.{mostName, byte, block, nameBytes, extraBytes, flagged, Closing, another, ended, closing, leftover, tailOf}
-use Rattle.calls.specs.Parts.{Marks, nameBits, extraBits, headBits, written, closingBits}
-use Rattle.calls.specs.Calls.{zeroFree, nameFits, extraFits}
+use Rattle.calls.specs.Parts.{Marks, nameBits, extraBits, written, closingBits}
+use Rattle.calls.specs.Calls.{zeroFree, nameFits}
 use Rattle.calls.proofs.Pieces.{filled-append, filled-bits}
-use Rattle.calls.proofs.Chains.{headLength, head-length}
+use Rattle.calls.proofs.Chains.{headLength}
 
 -- bytes as one field
 block-cells : (p : ℕ) (bs : List ℕ) → filled (eachCells (λ (u : Unit {0}). byte) (λ u a. tt) tt p bs) ≡ bitsOf bs

@@ -1,21 +1,21 @@
 -- What a writer, its buffer and its table keep of the notebook, call after call.
-use Prim.Native.Nat.{ℕ, zero, suc, _+_, _-_, _*_, _/_, _%_, _^_, _<_, _≤_}
+use Prim.Native.Nat.{ℕ, suc, _+_, _-_, _*_, _/_, _^_, _<_, _≤_}
 use mathlib.Core.Path.{_≡_, refl, sym, ap, subst, _∙_}
 use mathlib.Core.Bool.{Bool, true, false, not, cond, _&&_, _||_}
 use mathlib.Core.List.{List, [], _∷_, _++_, map, append-assoc, append-nil}
-use lib.ListN.{length, getD, set, take, drop, replicate, length-append, List·getD-map}
+use lib.ListN.{length, getD, set, replicate, length-append, List·getD-map}
 use lib.Seq.{map-set, map-set-same}
 use lib.Dec.{eqb, leb, ltb}
 use native.Mathlib.Omega.{arith}
 use Rattle.std.proofs.shelf.Lists.{length-replicate, length-map}
-use Rattle.std.proofs.shelf.Tests.{and-parts, ltb-true, leb-true, eqb-true, true≢false, false≢true}
+use Rattle.std.proofs.shelf.Tests.{and-parts, leb-true, eqb-true, false≢true}
 use Rattle.std.proofs.shelf.Ways.{tells}
 use Rattle.std.specs.Options.{mapped}
 use Rattle.std.specs.declared.option.Option.{Option}
 use Rattle.std.specs.declared.option.Option.the-variants.{Some, None}
 use Rattle.std.specs.declared.result.Result.{Result}
-use Rattle.std.specs.declared.result.Result.the-variants.{Ok, Err}
-use Rattle.bits.specs.Bits.{bits, bitsOf, bytesOf, putBits, clearedFrom, Bytes}
+use Rattle.std.specs.declared.result.Result.the-variants.{Ok}
+use Rattle.bits.specs.Bits.{bits, putBits, clearedFrom, Bytes}
 use Rattle.bits.proofs.Numbers.{length-bits}
 use Rattle.bits.proofs.Laws.{length-putBits}
 use Rattle.forms.specs.Code.{formOf}
@@ -23,7 +23,7 @@ use Rattle.format.specs.Word.{given}
 use Rattle.forms.specs.Coding.{Coding, encoded, behind}
 use Rattle.forms.proofs.Codes.{some-same, none-some, formOf-means}
 use Rattle.layout.specs.Recording as recordings
-use Rattle.layout.specs.Recording.{Section, Recording}
+use Rattle.layout.specs.Recording.{Section}
 use Rattle.layout.specs.Channels.{width, ruled, pile, codeAt, memoryAfter}
 use Rattle.layout.specs.Turns.{first, rawBytes, rawSize, Turn, firstTurn}
 use Rattle.layout.specs.Turns as turns
@@ -36,15 +36,15 @@ use Rattle.channel.specs.Records.{settingsOf, rested, remembering}
 use Rattle.state.specs.declared.Flags.{Flags}
 use Rattle.state.specs.declared.Edge.{Edge}
 use Rattle.state.specs.declared.Spot.{Spot}
-use Rattle.calls.specs.Parts.{Marks, written, described, headBits, openBits, closingBits}
-use Rattle.calls.specs.Calls.{Trouble, answer, unless, settings, marks, flags, zeroFree, nameFits, extraFits, beginFault, begun, head, describable, wrongCount, start, openFault, section, openSpot, noRow, rowBytes, strange, putFault, formIn, memoryOf, movedOn, nextRow, coded, voidFault, fieldsFilled, moreFault, closedEdge, lastFault, sizeFilled}
+use Rattle.calls.specs.Parts.{written, described, headBits, openBits, closingBits}
+use Rattle.calls.specs.Calls.{Trouble, answer, unless, settings, marks, flags, zeroFree, nameFits, extraFits, beginFault, begun, head, describable, wrongCount, start, openFault, section, openSpot, noRow, rowBytes, strange, putFault, formIn, memoryOf, movedOn, nextRow, coded, voidFault, fieldsFilled, moreFault, closedEdge}
 use Rattle.calls.specs.Calls as calls
-use Rattle.calls.specs.Runs.{Call, opening, putting, voiding, closing, ending, adding, listed, closes, Notebook, begins, current, noted, fed, Writer, between, inside, ended, afterOpen, afterClose, afterLast, Recorded, recording}
-use Rattle.calls.proofs.Buffers.{Filled, filled-size, fresh, put-end, put-again, zeros-end, cleared, cut}
-use Rattle.calls.proofs.Pieces.{wordsBits, opened, inner, open-length, wordsAt, endOf, sectionBits}
+use Rattle.calls.specs.Runs.{opening, putting, voiding, closing, adding, listed, closes, Notebook, begins, current, fed, Writer, between, inside, ended, afterOpen, afterClose, Recorded, recording}
+use Rattle.calls.proofs.Buffers.{Filled, filled-size, fresh, put-end, put-again, cleared}
+use Rattle.calls.proofs.Pieces.{wordsBits, inner, open-length, wordsAt, endOf, sectionBits}
 use Rattle.calls.proofs.Chains.{closedBits, closedEnd, closed-length, closed-more, end-more, headLength, head-length}
 use Rattle.calls.proofs.Heads.{head-whole, closing-whole}
-use Rattle.calls.proofs.Words.{turnAfter, formNext, turn-more, words-more, formed-more, raw-more, turn-inside, every-more}
+use Rattle.calls.proofs.Words.{turnAfter, formNext, turn-more, words-more, formed-more, raw-more, every-more}
 
 -- ## What is kept
 
@@ -247,7 +247,8 @@ memories-rested : (t : List Channel) → map (λ (c : Channel). c .memory) (map 
 memories-rested [] = refl
 memories-rested (c ∷ t) = ap (λ z. 0 ∷ z) (memories-rested t)
 
-abbrev fresh-section : List Channel → Section
+-- a section without words
+abbrev pub fresh-section : List Channel → Section
 fresh-section u = record { channels = settings u; words = [] }
 
 standing-new : (g : slim.Flags) (u : List Channel) → standing g (fresh-section u) ≡ openBits g 0 0 (settings u)

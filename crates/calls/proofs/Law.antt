@@ -1,23 +1,21 @@
 -- The law over runs.
 use Prim.Native.Nat.{ℕ}
-use mathlib.Core.Path.{_≡_, refl, sym, ap, subst, _∙_}
+use mathlib.Core.Path.{_≡_, refl, sym, ap, subst}
 use mathlib.Core.List.{List}
 use lib.ListN.{length}
 use native.Mathlib.Omega.{arith}
 use Rattle.std.specs.declared.option.Option.{Option}
 use Rattle.std.specs.declared.option.Option.the-variants.{Some, None}
-use Rattle.std.specs.declared.result.Result.the-variants.{Ok, Err}
-use Rattle.bits.specs.Bits.{Bytes, putBits}
+use Rattle.std.specs.declared.result.Result.the-variants.{Err}
 use Rattle.layout.specs.Slim.{another, ended}
 use Rattle.channel.specs.declared.record.Channel.{Channel}
-use Rattle.state.specs.declared.Edge.{Edge}
 use Rattle.state.specs.declared.Spot.{Spot}
 use Rattle.calls.specs.Calls as calls
-use Rattle.calls.specs.Calls.{Trouble, answer, unless, head, begun, beginFault, section, openSpot, nextRow, coded, formIn, movedOn, putting, closedEdge, moreFault, lastFault, voidFault, fillPuts, laterFault, cutShort, settings, earlier, fieldsFilled, sizeFilled, lastResult, lastBytes}
+use Rattle.calls.specs.Calls.{Trouble, answer, unless, head, begun, beginFault, section, openSpot, nextRow, coded, formIn, putting, closedEdge, moreFault, lastFault, voidFault, fillPuts, laterFault, cutShort, settings, earlier}
 use Rattle.calls.specs.Runs as runs
-use Rattle.calls.specs.Runs.{Call, Notebook, Writer, between, inside, ending, noted, recording, Refusal, no-open, no-fill, no-put, no-more, no-void, no-last, Ran, opened, put, closed, voided, lasted, filled, elsewhere, Recorded, Runs-are-recorded}
+use Rattle.calls.specs.Runs.{Call, Notebook, Writer, between, inside, Refusal, no-open, no-fill, no-put, no-more, no-void, no-last, Ran, opened, put, closed, voided, lasted, filled, elsewhere, Runs-are-recorded}
 use Rattle.calls.proofs.Keeping.{Kept, kept-begin, kept-open, kept-put, kept-more, kept-void}
-use Rattle.calls.proofs.Ending.{kept-last, ends}
+use Rattle.calls.proofs.Ending.{kept-last}
 use Rattle.calls.proofs.Fills.{kept-fill}
 
 as-was : {S A : Type 0} (o : Option Trouble) (a : A) (s : S) (f : S × Trouble) → answer o a (λ (k : Trouble). (s, k)) ≡ Err f → f .0 ≡ s

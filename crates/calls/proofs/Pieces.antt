@@ -1,19 +1,17 @@
 -- The bits of a file, part by part.
-use Prim.Native.Nat.{ℕ, zero, suc, _+_, _*_, _/_}
+use Prim.Native.Nat.{ℕ, zero, suc, _+_, _/_}
 use mathlib.Core.Path.{_≡_, refl, sym, ap, _∙_}
 use mathlib.Core.Bool.{Bool, true, false, cond}
 use mathlib.Core.List.{List, [], _∷_, _++_, append-assoc, append-nil}
 use lib.ListN.{length, replicate, length-append}
 use native.Mathlib.Omega.{arith}
-use Rattle.std.proofs.shelf.Lists.{length-replicate}
-use Rattle.std.specs.declared.option.Option.{Option}
-use Rattle.std.specs.declared.option.Option.the-variants.{Some, None}
+use Rattle.std.specs.declared.option.Option.the-variants.{Some}
 use Rattle.bits.specs.Bits.{bits}
 use Rattle.bits.proofs.Numbers.{length-bits}
 use Rattle.forms.specs.Code.{formOf}
 use Rattle.format.specs.Cells as cells
 use Rattle.format.specs.Cells.{Cell, bit, pad, marked, filled}
-use Rattle.format.specs.Format.{Format, Part, field, whole, _>>=_, choose, judged, padding, gap, each, eachCells, times, ahead}
+use Rattle.format.specs.Format.{field, whole, _>>=_, choose, judged, padding, gap, each, eachCells, times, ahead}
 use Rattle.format.specs.Word.{word, given}
 use Rattle.format.proofs.Filling.{length-filled}
 use Rattle.layout.specs.Recording.{Channel, Section}
@@ -21,7 +19,7 @@ use Rattle.layout.specs.Channels.{codeAt}
 use Rattle.layout.specs.Turns.{Turn, channelOf, memoryOf, nextTurn, firstTurn, wordsFrom, first, countWords, rawSize}
 use Rattle.layout.specs.Slim.{Flags, Closing, closing, closed, counted, body, piece, Piece, goesOn, channelCount, channel, recorded}
 use Rattle.calls.specs.Parts.{written, described, openBits, closingBits}
-use Rattle.calls.proofs.Steady.{steady-each, steady-word, steady-described, steady-closing}
+use Rattle.calls.proofs.Steady.{steady-described}
 
 pub filled-append : (a b : List Cell) → filled (a ++ b) ≡ filled a ++ filled b
 unfolding filled

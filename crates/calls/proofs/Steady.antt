@@ -4,14 +4,11 @@ use mathlib.Core.Path.{_≡_, refl, ap, _∙_}
 use mathlib.Core.Bool.{Bool, true, false}
 use mathlib.Core.List.{List, [], _∷_, _++_}
 use lib.ListN.{length}
-use Rattle.std.specs.declared.option.Option.{Option}
-use Rattle.format.specs.Cells.{Cell}
 use Rattle.format.specs.Format.{Format, Part, field, whole, choose, _>>=_, judged, one, each, eachCells, times}
 use Rattle.format.specs.Word.{word}
 use Rattle.forms.specs.Code.{Code}
-use Rattle.layout.specs.Recording.{Channel}
 use Rattle.layout.specs.Slim as slim
-use Rattle.layout.specs.Slim.{byte, block, nameBytes, extraBytes, flagged, added, channel, channelCount, leftover, closing, recorded}
+use Rattle.layout.specs.Slim.{byte, block, nameBytes, extraBytes, flagged, added, channel, leftover, closing, recorded}
 use Rattle.calls.specs.Parts.{described}
 
 abbrev pub Steady : {A : Type 0} → Format A → Type 0

@@ -1,17 +1,17 @@
 -- Words one behind the other, seen from the end.
-use Prim.Native.Nat.{ℕ, zero, suc, _+_, _<_}
+use Prim.Native.Nat.{ℕ, _+_}
 use mathlib.Core.Path.{_≡_, refl, sym, ap, _∙_}
 use mathlib.Core.Bool.{Bool}
 use mathlib.Core.List.{List, [], _∷_, _++_, append-assoc, append-nil}
-use lib.ListN.{length, length-append}
+use lib.ListN.{length}
 use native.Mathlib.Omega.{arith}
 use Rattle.std.specs.declared.option.Option.{Option}
-use Rattle.std.specs.declared.option.Option.the-variants.{Some, None}
+use Rattle.std.specs.declared.option.Option.the-variants.{Some}
 use Rattle.forms.specs.Code.{Means, formOf}
 use Rattle.format.specs.Word.{given}
 use Rattle.layout.specs.Recording.{Channel}
 use Rattle.layout.specs.Channels.{codeAt}
-use Rattle.layout.specs.Turns.{Spot, channelOf, advance, wordBytes, rawBytes, Turn, memoryOf, nextTurn}
+use Rattle.layout.specs.Turns.{channelOf, wordBytes, rawBytes, Turn, memoryOf, nextTurn}
 use Rattle.layout.specs.Plain.{Every, Formed}
 use Rattle.layout.proofs.Spots.{Inside, advance-inside}
 use Rattle.calls.proofs.Pieces.{wordsBits}

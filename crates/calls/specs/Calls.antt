@@ -16,7 +16,6 @@ use Rattle.layout.specs.Turns as turns
 use Rattle.layout.specs.Turns.{advance, wordBytes, rawBytes}
 use Rattle.layout.specs.Slim as slim
 use Rattle.layout.specs.Slim.{mostBytes, mostSections, mostChannels, mostName, recorded, Closing, another, ended}
-use Rattle.channel.specs.declared.record.Settings.{Settings}
 use Rattle.channel.specs.declared.record.Channel.{Channel}
 use Rattle.channel.specs.Records.{settingsOf, rested, remembering}
 use Rattle.state.specs.declared.Flags.{Flags}

@@ -1,14 +1,11 @@
 -- The parts of a file that the writer's calls write, from the file's description.
-use Prim.Native.Nat.{ℕ, _+_, _*_, _/_}
-use mathlib.Core.Bool.{Bool, true, false, cond, _||_}
-use mathlib.Core.List.{List, [], _∷_, _++_}
-use lib.Dec.{eqb, leb, ltb}
+use Prim.Native.Nat.{ℕ, _+_}
+use mathlib.Core.Bool.{Bool, false, cond}
+use mathlib.Core.List.{List, [], _++_}
 use lib.ListN.{length, replicate}
 use Rattle.std.specs.declared.option.Option.{Option}
-use Rattle.std.specs.declared.option.Option.the-variants.{Some, None}
-use Rattle.bits.specs.Bits.{bits, number}
-use Rattle.forms.specs.Code.{formOf}
-use Rattle.format.specs.Cells.{Cell, filled}
+use Rattle.bits.specs.Bits.{bits}
+use Rattle.format.specs.Cells.{filled}
 use Rattle.format.specs.Format.{Format, _>>=_, _∈_, times, gap}
 use Rattle.layout.specs.Recording.{Channel}
 use Rattle.layout.specs.Slim as slim

@@ -1,7 +1,6 @@
 -- Calls in a row, and the notebook of the accepted ones.
 use Prim.Native.Nat.{ℕ, _^_, _<_}
 use mathlib.Core.Path.{_≡_}
-use mathlib.Core.Bool.{Bool}
 use mathlib.Core.List.{List, [], _∷_, _++_}
 use lib.ListN.{take}
 use Rattle.std.specs.Options.{mapped}
@@ -10,7 +9,6 @@ use Rattle.std.specs.declared.option.Option.the-variants.{Some, None}
 use Rattle.std.specs.declared.result.Result.{Result}
 use Rattle.std.specs.declared.result.Result.the-variants.{Ok, Err}
 use Rattle.bits.specs.Bits.{Bytes}
-use Rattle.layout.specs.Recording as recordings
 use Rattle.layout.specs.Recording.{Section, Recording}
 use Rattle.layout.specs.Claims.{file, Valid, Gives}
 use Rattle.layout.specs.Plain.{If-given}

@@ -189,7 +189,7 @@ pub record Chain-fits (g : Flags) (k total : ℕ) (ss : List Section) (ls : List
   pub leftovers : (length ls ≤ 7) × Bytes ls
 
 -- sections and leftovers together
-abbrev bodyOf : List Section → List ℕ → Body
+abbrev pub bodyOf : List Section → List ℕ → Body
 bodyOf ss ls = record { sections = ss; leftovers = ls }
 
 -- no sections are not one

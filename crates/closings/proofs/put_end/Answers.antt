@@ -15,6 +15,6 @@ returns-then-leftovers-eq0 c =
     let e : closing_bits at (ended ls) ≡ padded_bits at 15 4 = ap (λ l. closing_bits at (ended l)) z ∙ end-padded at in
     let k : length ls ≡ 0 = c.if-leftovers-eq0.true in
     record {
-      place = c.put-padded.ensures.place ∙ end_by at (length b) (ended ls) (padded_bits at 15 4) c.if-buffer-gt-MOST-BYTES.false (omega (arith, k)) e ∙ ap (λ z. closing_end z (ended ls) (length b)) c.bits-at.ensures;
-      bytes = c.put-padded.ensures.bytes ∙ bytes-by at b (ended ls) (padded_bits at 15 4) c.if-buffer-gt-MOST-BYTES.false (omega (arith, k)) e ∙ ap (λ z. closing_bytes z (ended ls) b) c.bits-at.ensures;
+      place = c.put_padded.ensures.place ∙ end_by at (length b) (ended ls) (padded_bits at 15 4) c.if-buffer-gt-MOST_BYTES.false (omega (arith, k)) e ∙ ap (λ z. closing_end z (ended ls) (length b)) c.bits-at.ensures;
+      bytes = c.put_padded.ensures.bytes ∙ bytes-by at b (ended ls) (padded_bits at 15 4) c.if-buffer-gt-MOST_BYTES.false (omega (arith, k)) e ∙ ap (λ z. closing_bytes z (ended ls) b) c.bits-at.ensures;
     }

@@ -11,13 +11,13 @@ use Rattle.closings.specs.Closings.{padded_bits}
 use Rattle.closings.proofs.Padded.{left-length, left-put, left_end, accepted, refused, fits-long}
 use Rattle.closings.proofs.put_leftovers.Goals as goal
 
-pub returns-then-end-gap-at : goal.returns-then-end-gap-at
-returns-then-end-gap-at c =
+pub returns-then-end-gap_at : goal.returns-then-end-gap_at
+returns-then-end-gap_at c =
     let b : List ℕ = c.args.buffer.now in
     let at : ℕ = c.args.at in
     let ls : List ℕ = c.args.leftovers.now in
     let l = left-length at ls c.requires.0 in
-    let t = fits-long at (length b) (ended ls) (omega (arith, l, c.gap-at.ensures.gap, c.if-end-gap-at.true)) in
+    let t = fits-long at (length b) (ended ls) (omega (arith, l, c.gap_at.ensures.gap, c.if-end-gap_at.true)) in
     let (p, w) = refused at b (ended ls) t in
     record { place = p; bytes = w }
 
@@ -33,10 +33,10 @@ from_some false x v e = absurd (none-some (sym e))
 taken : (at len : ℕ) (ls : List ℕ) (x : ℕ) → at ≡ 0 → Some x ≡ cond (is_field at (8 * length ls) len) (Some (field_at ls at (8 * length ls))) None → x ≡ field_at ls 0 (8 * length ls)
 taken at len ls x e h = from_some (is_field at (8 * length ls) len) x (field_at ls at (8 * length ls)) h ∙ ap (λ z. field_at ls z (8 * length ls)) e
 
-pub put-padded-requires : goal.put-padded-requires
-put-padded-requires c =
+pub put_padded-requires : goal.put_padded-requires
+put_padded-requires c =
     let ls : List ℕ = c.args.leftovers.now in
-    let v = taken c.new.result.bits (length ls) ls c.in-ok-bytes.bytes c.new.ensures c.in-ok-bytes.ensures in
+    let v = taken c.new.result.bits (length ls) ls c.in_ok-bytes.bytes c.new.ensures c.in_ok-bytes.ensures in
     let l = field_lt ls 0 (8 * length ls) in
     (omega (arith, c.requires.1.0), (rw v l, omega (arith, c.requires.1.1.0)))
 
@@ -46,14 +46,14 @@ returns c =
     let at : ℕ = c.args.at in
     let ls : List ℕ = c.args.leftovers.now in
     let n : ℕ = length ls in
-    let g : List ℕ = c.put-field.new.buffer in
-    let k : length g ≡ length b = c.put-field.auto.buffer in
+    let g : List ℕ = c.put_field.new.buffer in
+    let k : length g ≡ length b = c.put_field.auto.buffer in
     let l = left-length at ls c.requires.0 in
-    let h : at + length (closing_bits at (ended ls)) ≤ 8 * length b = omega (arith, l, c.gap-at.ensures.gap, c.if-end-gap-at.false) in
-    let v = taken c.new.result.bits (length ls) ls c.in-ok-bytes.bytes c.new.ensures c.in-ok-bytes.ensures in
-    let w : g ≡ put_bits b at (bits 7 (14 + 16 * n)) = field_put b g at c.new-2.result.bits 7 (14 + 16 * n) (omega arith) (omega (arith, h, l)) c.new-2.ensures c.put-field.ensures.bytes in
+    let h : at + length (closing_bits at (ended ls)) ≤ 8 * length b = omega (arith, l, c.gap_at.ensures.gap, c.if-end-gap_at.false) in
+    let v = taken c.new.result.bits (length ls) ls c.in_ok-bytes.bytes c.new.ensures c.in_ok-bytes.ensures in
+    let w : g ≡ put_bits b at (bits 7 (14 + 16 * n)) = field_put b g at c.new-2.result.bits 7 (14 + 16 * n) (omega arith) (omega (arith, h, l)) c.new-2.ensures c.put_field.ensures.bytes in
     let (p, x) = accepted at b (ended ls) c.requires.1.1.1 c.requires.1.0 h in
     record {
-      place = c.put-padded.ensures.place ∙ left_end at (at + 7) c.in-ok-bytes.bytes n (length g) ls refl c.requires.0 (rw (ap (λ z. 8 * z) k) h) refl v ∙ p;
-      bytes = left-put b g c.put-padded.new.buffer at at (at + 7) c.in-ok-bytes.bytes n ls refl c.requires.0 h refl refl v k w c.put-padded.ensures.bytes ∙ x;
+      place = c.put_padded.ensures.place ∙ left_end at (at + 7) c.in_ok-bytes.bytes n (length g) ls refl c.requires.0 (rw (ap (λ z. 8 * z) k) h) refl v ∙ p;
+      bytes = left-put b g c.put_padded.new.buffer at at (at + 7) c.in_ok-bytes.bytes n ls refl c.requires.0 h refl refl v k w c.put_padded.ensures.bytes ∙ x;
     }

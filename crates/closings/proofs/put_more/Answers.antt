@@ -10,6 +10,6 @@ returns c =
     let at : ℕ = c.bits-at.result in
     let e = more-padded at in
     record {
-      place = c.put-padded.ensures.place ∙ end_by at (length b) another (padded_bits at 8 4) c.if-buffer-gt-MOST-BYTES.false (omega arith) e ∙ ap (λ z. closing_end z another (length b)) c.bits-at.ensures;
-      bytes = c.put-padded.ensures.bytes ∙ bytes-by at b another (padded_bits at 8 4) c.if-buffer-gt-MOST-BYTES.false (omega arith) e ∙ ap (λ z. closing_bytes z another b) c.bits-at.ensures;
+      place = c.put_padded.ensures.place ∙ end_by at (length b) another (padded_bits at 8 4) c.if-buffer-gt-MOST_BYTES.false (omega arith) e ∙ ap (λ z. closing_end z another (length b)) c.bits-at.ensures;
+      bytes = c.put_padded.ensures.bytes ∙ bytes-by at b another (padded_bits at 8 4) c.if-buffer-gt-MOST_BYTES.false (omega arith) e ∙ ap (λ z. closing_bytes z another b) c.bits-at.ensures;
     }

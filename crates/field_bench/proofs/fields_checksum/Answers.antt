@@ -43,7 +43,7 @@ returns-then-window-width c =
     let n : ℕ = c.args.count - c.loop.counter in
     let at : ℕ = c.loop.at.bits in
     let s = one_more f w n (c.args.count - (c.loop.counter + 1)) at c.loop.sum (omega arith) in
-    let b : leb w (remaining at (length f)) ≡ false = lt-leb w (remaining at (length f)) (omega (arith, c.window-at-window.ensures.len)) in
+    let b : leb w (remaining at (length f)) ≡ false = lt-leb w (remaining at (length f)) (omega (arith, c.window_at-window.ensures.len)) in
     allowed w (checksum f w c.args.count 0 0) 0 (omega arith) (sym (s ∙ cond-false (leb w (remaining at (length f))) _ _ b) ∙ c.loop.invariant)
 
 pub loop-preserved : goal.loop-preserved
@@ -54,11 +54,11 @@ loop-preserved c =
     let m : ℕ = c.args.count - (c.loop.counter + 1) in
     let at : ℕ = c.loop.at.bits in
     let s = one_more f w n m at c.loop.sum (omega arith) in
-    let b : leb w (remaining at (length f)) ≡ true = le-leb w (remaining at (length f)) (omega (arith, c.window-at-window.ensures.len)) in
+    let b : leb w (remaining at (length f)) ≡ true = le-leb w (remaining at (length f)) (omega (arith, c.window_at-window.ensures.len)) in
     let k : c.if-width-eq64.mask ≡ 2 ^ w - 1 = elim c.if-width-eq64.branch [ then-width-eq64 x ↦ x.mask-is ∙ whole w x.if-width-eq64.true | else-width-eq64 x ↦ x.mask-is ∙ ap (λ z. z - 1) (one_shl w 64 (omega arith)) ] in
-    let v = front f at w c.if-width-eq64.mask c.window-at-window.result.bits (omega arith) c.window-at-window.ensures.bits k in
+    let v = front f at w c.if-width-eq64.mask c.window_at-window.result.bits (omega arith) c.window_at-window.ensures.bits k in
     let p = c.plus-at.ensures in
-    let r = c.rotate-left.ensures in
+    let r = c.rotate_left.ensures in
     let q = cond-true (leb w (remaining at (length f))) (checksum f w m (min (at + w) (2 ^ 64 - 1)) (summed c.loop.sum (field_at f at w))) 0 b in
     let i : checksum f w n at c.loop.sum ≡ checksum f w c.args.count 0 0 = c.loop.invariant in
     cc

@@ -83,14 +83,14 @@ all_in c =
     fit c.args.width c.args.count c.loop-i.i (held_end c.loop-i.waiting.place c.loop-i.waiting.have) (length c.args.buffer.now) (omega arith) (omega arith) c.loop-i.invariant.1
     (c.if-not-finish.ensures.finished ∙ ap (λ z. leb (held_end c.loop-i.waiting.place c.loop-i.waiting.have) (8 * z)) c.loop-i.auto.buffer)
 
-pub overflow-mul-result : goal.overflow-mul-result
-overflow-mul-result c = omega (arith, within c.args.width c.args.count (length c.args.buffer.now) (all_in c))
+pub overflow_mul-result : goal.overflow_mul-result
+overflow_mul-result c = omega (arith, within c.args.width c.args.count (length c.args.buffer.now) (all_in c))
 
-pub overflow-add-result-2 : goal.overflow-add-result-2
-overflow-add-result-2 c = omega (arith, within c.args.width c.args.count (length c.args.buffer.now) (all_in c))
+pub overflow_add-result-2 : goal.overflow_add-result-2
+overflow_add-result-2 c = omega (arith, within c.args.width c.args.count (length c.args.buffer.now) (all_in c))
 
-pub overflow-cast-result : goal.overflow-cast-result
-overflow-cast-result c = omega (arith, within c.args.width c.args.count (length c.args.buffer.now) (all_in c))
+pub overflow_cast-result : goal.overflow_cast-result
+overflow_cast-result c = omega (arith, within c.args.width c.args.count (length c.args.buffer.now) (all_in c))
 
 pub returns : goal.returns
 returns c =

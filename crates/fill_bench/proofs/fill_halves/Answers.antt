@@ -8,9 +8,9 @@ use Rattle.fill_bench.specs.Files.{halves, sized_only}
 use Rattle.fill_bench.proofs.Rows.{without, refused, fills}
 use Rattle.fill_bench.proofs.fill_halves.Goals as goal
 
-pub returns-in-default : goal.returns-in-default
-returns-in-default c =
-    let (n, b) = refused (halves c.args.delta c.args.turn c.args.algorithm c.args.narrow c.args.value) _ _ c.in-default.ensures c.args.raw.now c.args.buffer.now in
+pub returns-in_default : goal.returns-in_default
+returns-in_default c =
+    let (n, b) = refused (halves c.args.delta c.args.turn c.args.algorithm c.args.narrow c.args.value) _ _ c.in_default.ensures c.args.raw.now c.args.buffer.now in
     record { bits = n; bytes = b }
 
 pub returns-in-Ok-fill : goal.returns-in-Ok-fill

@@ -5,4 +5,4 @@ use Rattle.heads.proofs.head_size.Goals as goal
 
 pub returns : goal.returns
 unfolding head_length
-returns c = omega (arith, size-worth c.args.flags.sized, c.worth.ensures.value, c.name-size.ensures.size, c.extra-size.ensures.size)
+returns c = omega (arith, size-worth c.args.flags.sized, c.worth.ensures.value, c.name_size.ensures.size, c.extra_size.ensures.size)

@@ -9,5 +9,5 @@ returns c =
     let f : List ℕ = c.args.buffer.now in
     let ys : List ℕ = c.args.bytes.now in
     let p : ℕ = c.args.at in
-    ap (put_mid p (p + length ys - p) f) c.copy-from-slice.ensures.after
-    ∙ copied f ys p (p + length ys - p) (omega arith) (omega (arith, c.requires)) c.are-bytes.ensures c.are-bytes-2.ensures
+    ap (put_mid p (p + length ys - p) f) c.copy_from_slice.ensures.after
+    ∙ copied f ys p (p + length ys - p) (omega arith) (omega (arith, c.requires)) c.are_bytes.ensures c.are_bytes-2.ensures

@@ -20,8 +20,8 @@ three f a b d stamp byte i j k h la lb ei ej ek ea eb ed =
 pub returns-then-not-sized : goal.returns-then-not-sized
 returns-then-not-sized c =
     let e : c.args.sized ≡ false = c.if-not-sized.true in
-    let t = three c.args.buffer.now c.put-field.new.buffer c.put-field-2.new.buffer c.put-field-3.new.buffer c.args.stamp c.args.byte c.new.result.bits c.new-2.result.bits c.new-3.result.bits
-    (omega (arith, c.requires)) c.put-field.auto.buffer (c.put-field-2.auto.buffer ∙ c.put-field.auto.buffer) c.new.ensures c.new-2.ensures c.new-3.ensures c.put-field.ensures.bytes c.put-field-2.ensures.bytes c.put-field-3.ensures.bytes in
+    let t = three c.args.buffer.now c.put_field.new.buffer c.put_field-2.new.buffer c.put_field-3.new.buffer c.args.stamp c.args.byte c.new.result.bits c.new-2.result.bits c.new-3.result.bits
+    (omega (arith, c.requires)) c.put_field.auto.buffer (c.put_field-2.auto.buffer ∙ c.put_field.auto.buffer) c.new.ensures c.new-2.ensures c.new-3.ensures c.put_field.ensures.bytes c.put_field-2.ensures.bytes c.put_field-3.ensures.bytes in
     record { place = sym (ap (λ t. 56 + cond t 32 0) e); bytes = t ∙ sym (ap (λ t. put_bits c.args.buffer.now 0 (first_bits c.args.stamp c.args.byte t)) e) }
 
 pub returns : goal.returns
@@ -29,10 +29,10 @@ returns c =
     let f : List ℕ = c.args.buffer.now in
     let e : c.args.sized ≡ true = c.if-not-sized.false in
     let h : 88 ≤ 8 * length f = rw (sym (ap (λ t. 56 + cond t 32 0) e)) c.requires in
-    let k : length c.put-field-3.new.buffer ≡ length f = c.put-field-3.auto.buffer ∙ c.put-field-2.auto.buffer ∙ c.put-field.auto.buffer in
-    let t = three f c.put-field.new.buffer c.put-field-2.new.buffer c.put-field-3.new.buffer c.args.stamp c.args.byte c.new.result.bits c.new-2.result.bits c.new-3.result.bits
-    (omega arith) c.put-field.auto.buffer (c.put-field-2.auto.buffer ∙ c.put-field.auto.buffer) c.new.ensures c.new-2.ensures c.new-3.ensures c.put-field.ensures.bytes c.put-field-2.ensures.bytes c.put-field-3.ensures.bytes in
-    let u = number_put c.put-field-3.new.buffer c.put-u32.new.buffer 7 c.new-4.result.bytes 0 (omega arith) c.new-4.ensures c.put-u32.ensures.bytes in
+    let k : length c.put_field-3.new.buffer ≡ length f = c.put_field-3.auto.buffer ∙ c.put_field-2.auto.buffer ∙ c.put_field.auto.buffer in
+    let t = three f c.put_field.new.buffer c.put_field-2.new.buffer c.put_field-3.new.buffer c.args.stamp c.args.byte c.new.result.bits c.new-2.result.bits c.new-3.result.bits
+    (omega arith) c.put_field.auto.buffer (c.put_field-2.auto.buffer ∙ c.put_field.auto.buffer) c.new.ensures c.new-2.ensures c.new-3.ensures c.put_field.ensures.bytes c.put_field-2.ensures.bytes c.put_field-3.ensures.bytes in
+    let u = number_put c.put_field-3.new.buffer c.put_u32.new.buffer 7 c.new-4.result.bytes 0 (omega arith) c.new-4.ensures c.put_u32.ensures.bytes in
     record {
       place = sym (ap (λ t. 56 + cond t 32 0) e);
       bytes = u ∙ ap (λ z. put_bits z 56 (bits 32 0)) t ∙ four-put f c.args.stamp c.args.byte h ∙ sym (ap (λ t. put_bits f 0 (first_bits c.args.stamp c.args.byte t)) e);

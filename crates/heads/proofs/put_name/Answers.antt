@@ -11,11 +11,11 @@ returns-in-None c =
     let z = name-none (option_map (λ x. x.now) c.args.name) (ap (option_map (λ x. x.now)) c.in-None.is) in
     record {
       place = omega (arith, ap length z);
-      bytes = sym (ap (put_bits c.args.buffer.now (8 * c.args.at)) z ∙ put_bits-none c.args.buffer.now (8 * c.args.at) c.are-bytes.ensures);
+      bytes = sym (ap (put_bits c.args.buffer.now (8 * c.args.at)) z ∙ put_bits-none c.args.buffer.now (8 * c.args.at) c.are_bytes.ensures);
     }
 
-pub put-bytes-requires : goal.put-bytes-requires
-put-bytes-requires c = omega (arith, name-size (option_map (λ x. x.now) c.args.name) c.in-Some.bytes.now (ap (option_map (λ x. x.now)) c.in-Some.is) c.requires.0, c.requires.1)
+pub put_bytes-requires : goal.put_bytes-requires
+put_bytes-requires c = omega (arith, name-size (option_map (λ x. x.now) c.args.name) c.in-Some.bytes.now (ap (option_map (λ x. x.now)) c.in-Some.is) c.requires.0, c.requires.1)
 
 pub returns-in-Some : goal.returns-in-Some
 returns-in-Some c =
@@ -25,10 +25,10 @@ returns-in-Some c =
     let o : Option (List ℕ) = option_map (λ x. x.now) c.args.name in
     let e : o ≡ _ = ap (option_map (λ x. x.now)) c.in-Some.is in
     let l = name-size o bs e c.requires.0 in
-    let g : List ℕ = c.put-bytes.new.buffer in
-    let k : length g ≡ length f = c.put-bytes.auto.buffer in
-    let w = field_put g c.put-field.new.buffer (8 * (at + length bs)) c.new.result.bits 8 0 (omega arith) (omega (arith, k, l, c.requires.1)) c.new.ensures c.put-field.ensures.bytes in
+    let g : List ℕ = c.put_bytes.new.buffer in
+    let k : length g ≡ length f = c.put_bytes.auto.buffer in
+    let w = field_put g c.put_field.new.buffer (8 * (at + length bs)) c.new.result.bits 8 0 (omega arith) (omega (arith, k, l, c.requires.1)) c.new.ensures c.put_field.ensures.bytes in
     record {
       place = omega (arith, l);
-      bytes = w ∙ ap (λ z. put_bits z (8 * (at + length bs)) (bits 8 0)) c.put-bytes.ensures ∙ name-put f at (8 * (at + length bs)) o bs e c.requires.0 (omega arith) c.requires.1.0;
+      bytes = w ∙ ap (λ z. put_bits z (8 * (at + length bs)) (bits 8 0)) c.put_bytes.ensures ∙ name-put f at (8 * (at + length bs)) o bs e c.requires.0 (omega arith) c.requires.1.0;
     }

@@ -15,8 +15,8 @@ returns-in-1 c =
     let out = c.args.out.now in
     let (a, b, r) = ruled-delta c.args.delta n p i.narrow i.pedestal (fault 6 0) (pack_answer 2 (plain_channel n p) raw (length out)) (pack_answer 2 (delta_channel n p) raw (length out)) c.in-Some.ensures c.in-1.is in
     let (a2, b2, s) = ruled-delta c.args.delta n p i.narrow i.pedestal out (pack_bytes 2 (plain_channel n p) raw out) (pack_bytes 2 (delta_channel n p) raw out) c.in-Some.ensures c.in-1.is in
-    let fits : SFits w64 c.pack-with-in-1.result = search rules in
+    let fits : SFits w64 c.pack_with-in-1.result = search rules in
     record {
-      answer = to_z-of_z w64 c.pack-with-in-1.result fits ∙ c.pack-with-in-1.ensures.answer ∙ ap (λ z. hosted (pack_answer 2 (delta_channel z i.pedestal) raw (length out))) a ∙ ap (λ z. hosted (pack_answer 2 (delta_channel n z) raw (length out))) b ∙ ap hosted (sym r);
-      bytes = c.pack-with-in-1.ensures.bytes ∙ ap (λ z. pack_bytes 2 (delta_channel z i.pedestal) raw out) a ∙ ap (λ z. pack_bytes 2 (delta_channel n z) raw out) b ∙ sym s;
+      answer = to_z-of_z w64 c.pack_with-in-1.result fits ∙ c.pack_with-in-1.ensures.answer ∙ ap (λ z. hosted (pack_answer 2 (delta_channel z i.pedestal) raw (length out))) a ∙ ap (λ z. hosted (pack_answer 2 (delta_channel n z) raw (length out))) b ∙ ap hosted (sym r);
+      bytes = c.pack_with-in-1.ensures.bytes ∙ ap (λ z. pack_bytes 2 (delta_channel z i.pedestal) raw out) a ∙ ap (λ z. pack_bytes 2 (delta_channel n z) raw out) b ∙ sym s;
     }

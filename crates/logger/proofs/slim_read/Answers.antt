@@ -16,8 +16,8 @@ returns-in-1 c =
     let out = c.args.out.now in
     let (a, b, r) = ruled-delta c.args.delta n p i.narrow i.pedestal (fault 6 0) (read_answer 2 (plain_channel n p) f k (length out)) (read_answer 2 (delta_channel n p) f k (length out)) c.in-Some.ensures c.in-1.is in
     let (a2, b2, s) = ruled-delta c.args.delta n p i.narrow i.pedestal out (read_bytes 2 (plain_channel n p) f k out) (read_bytes 2 (delta_channel n p) f k out) c.in-Some.ensures c.in-1.is in
-    let fits : SFits w64 c.read-with-in-1.result = search rules in
+    let fits : SFits w64 c.read_with-in-1.result = search rules in
     record {
-      answer = to_z-of_z w64 c.read-with-in-1.result fits ∙ c.read-with-in-1.ensures.answer ∙ ap (λ z. hosted (read_answer 2 (delta_channel z i.pedestal) f k (length out))) a ∙ ap (λ z. hosted (read_answer 2 (delta_channel n z) f k (length out))) b ∙ ap hosted (sym r);
-      bytes = c.read-with-in-1.ensures.bytes ∙ ap (λ z. read_bytes 2 (delta_channel z i.pedestal) f k out) a ∙ ap (λ z. read_bytes 2 (delta_channel n z) f k out) b ∙ sym s;
+      answer = to_z-of_z w64 c.read_with-in-1.result fits ∙ c.read_with-in-1.ensures.answer ∙ ap (λ z. hosted (read_answer 2 (delta_channel z i.pedestal) f k (length out))) a ∙ ap (λ z. hosted (read_answer 2 (delta_channel n z) f k (length out))) b ∙ ap hosted (sym r);
+      bytes = c.read_with-in-1.ensures.bytes ∙ ap (λ z. read_bytes 2 (delta_channel z i.pedestal) f k out) a ∙ ap (λ z. read_bytes 2 (delta_channel n z) f k out) b ∙ sym s;
     }

@@ -21,8 +21,8 @@ loop-row-preserved c =
     let h = c.loop-row-test.true in
     let n = length-next kept t i h in
     let (ruled, rest) = row-ruled kept t i h able in
-    let (w, q, l, y) = put-row b c.put-description.new.buffer p c.plus-place.result.bits c.description-len.result D R (row t i)
-    (omega (arith, c.requires.few, len)) ruled (omega (arith, n, size, len, c.requires.room)) c.description-len.ensures.len c.plus-place.ensures c.put-description.ensures.bytes in
+    let (w, q, l, y) = put-row b c.put_description.new.buffer p c.plus-place.result.bits c.description_len.result D R (row t i)
+    (omega (arith, c.requires.few, len)) ruled (omega (arith, n, size, len, c.requires.room)) c.description_len.ensures.len c.plus-place.ensures c.put_description.ensures.bytes in
     (w ∙ ap (put_bits b p) (sym (rows_next kept t i h)) ∙ put, omega (arith, q, n, size), l ∙ len, rest, y)
 
 pub returns : goal.returns

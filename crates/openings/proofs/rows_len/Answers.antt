@@ -5,7 +5,7 @@ use Rattle.openings.proofs.rows_len.Goals as goal
 pub loop-row-preserved : goal.loop-row-preserved
 loop-row-preserved c =
     let n = length-next c.args.recorded c.args.table.now c.loop-row.row-index c.loop-row-test.true in
-    let e = c.description-len-len.ensures in
+    let e = c.description_len-len.ensures in
     (omega (arith, n, e.len, c.loop-row.invariant.0), omega (arith, e.most, c.loop-row.invariant.1))
 
 pub returns : goal.returns

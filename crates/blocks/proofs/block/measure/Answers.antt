@@ -7,10 +7,10 @@ use Rattle.blocks.specs.Loops.{measured}
 use Rattle.blocks.proofs.Folds.{measured-more, measured-none, measured-all, index-within, index_word}
 use Rattle.blocks.proofs.block.measure.Goals as goal
 
-pub word-at-requires : goal.word-at-requires
-word-at-requires g c =
+pub word_at-requires : goal.word_at-requires
+word_at-requires g c =
     let k : ℕ = bytes_per (g.C.Coder.wide c.args.coder.now) in
-    (c.word-size-size.ensures.some, (c.word-size-size.ensures.most, index-within k c.loop-i.i c.args.count c.word-size-size.result (length c.args.raw.now) c.word-size-size.ensures.size c.loop-i-test.true c.requires.raw))
+    (c.word_size-size.ensures.some, (c.word_size-size.ensures.most, index-within k c.loop-i.i c.args.count c.word_size-size.result (length c.args.raw.now) c.word_size-size.ensures.size c.loop-i-test.true c.requires.raw))
 
 pub loop-i-init : goal.loop-i-init
 loop-i-init g c =
@@ -26,7 +26,7 @@ returns-in-None g c =
     let n : ℕ = c.args.count in
     let i : ℕ = c.loop-i.i in
     let h : i < length (raw_words k n raw) = rw (length-raw_words k n raw) c.loop-i-test.true in
-    let e = sym (measured-none C c.loop-i.memory (raw_words k n raw) i h c.word-at.result (index_word k n raw i c.word-size-size.result c.word-at.result c.word-size-size.ensures.size c.loop-i-test.true c.requires.raw c.word-at.ensures) c.loop-i.len c.in-None.ensures)
+    let e = sym (measured-none C c.loop-i.memory (raw_words k n raw) i h c.word_at.result (index_word k n raw i c.word_size-size.result c.word_at.result c.word_size-size.ensures.size c.loop-i-test.true c.requires.raw c.word_at.ensures) c.loop-i.len c.in-None.ensures)
     ∙ c.loop-i.invariant.0 in
     record { bits = e; few = tt }
 
@@ -39,8 +39,8 @@ loop-i-preserved g c =
     let i : ℕ = c.loop-i.i in
     let d = c.in-Some.coded in
     let h : i < length (raw_words k n raw) = rw (length-raw_words k n raw) c.loop-i-test.true in
-    let s : d.form.len ≤ 64 = encoded-short C (g.C.Coder.sound c.args.coder.now) c.loop-i.memory c.word-at.result d.form.len d.form.bits d.next c.in-Some.ensures in (
-      sym (measured-more C c.loop-i.memory (raw_words k n raw) i h c.word-at.result (index_word k n raw i c.word-size-size.result c.word-at.result c.word-size-size.ensures.size c.loop-i-test.true c.requires.raw c.word-at.ensures) c.loop-i.len d.form.len d.form.bits d.next c.in-Some.ensures)
+    let s : d.form.len ≤ 64 = encoded-short C (g.C.Coder.sound c.args.coder.now) c.loop-i.memory c.word_at.result d.form.len d.form.bits d.next c.in-Some.ensures in (
+      sym (measured-more C c.loop-i.memory (raw_words k n raw) i h c.word_at.result (index_word k n raw i c.word_size-size.result c.word_at.result c.word_size-size.ensures.size c.loop-i-test.true c.requires.raw c.word_at.ensures) c.loop-i.len d.form.len d.form.bits d.next c.in-Some.ensures)
           ∙ c.loop-i.invariant.0,
       omega (arith, s, c.loop-i.invariant.1),
     )

@@ -11,9 +11,9 @@ returns g c =
     let K = g.C.Coder.sound c.args.coder.now in
     let k : ℕ = bytes_per (g.C.Coder.wide c.args.coder.now) in
     record {
-      answer = c.pack-words.ensures.answer;
-      bytes = c.pack-words.ensures.bytes;
+      answer = c.pack_words.ensures.answer;
+      bytes = c.pack_words.ensures.bytes;
       apart = apart C K;
-      back = λ n e. packed-back k C K c.args.raw.now c.args.out.now c.pack-words.new.out n (sym (ap (answered (λ z. z)) e) ∙ c.pack-words.ensures.answer) c.pack-words.ensures.bytes;
-      most = c.pack-words.ensures.most;
+      back = λ n e. packed-back k C K c.args.raw.now c.args.out.now c.pack_words.new.out n (sym (ap (answered (λ z. z)) e) ∙ c.pack_words.ensures.answer) c.pack_words.ensures.bytes;
+      most = c.pack_words.ensures.most;
     }

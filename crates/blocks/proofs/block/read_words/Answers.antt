@@ -7,6 +7,6 @@ pub returns-else-bytes-block : goal.returns-else-bytes-block
 returns-else-bytes-block g c =
     let k : ℕ = bytes_per (g.C.Coder.wide c.args.coder.now) in
     let f = c.args.block.now in
-    let l : length f ≤ (c.in-Ok.end.bits + 7) / 8 = omega (arith, c.whole-byte.ensures, c.bytes.ensures, c.if-bytes-block.false) in
-    let (a, b) = read_done k (g.C.Coder.coding c.args.coder.now) f c.word-size-size.result c.args.count c.args.out.now c.unpack.new.out c.in-Ok.end.bits c.word-size-size.ensures.size c.if-count-gt-MOST-WORDS.false c.if-size-count.false c.are-bytes.ensures c.in-Ok.ensures l c.unpack.ensures in
+    let l : length f ≤ (c.in-Ok.end.bits + 7) / 8 = omega (arith, c.whole_byte.ensures, c.bytes.ensures, c.if-bytes-block.false) in
+    let (a, b) = read_done k (g.C.Coder.coding c.args.coder.now) f c.word_size-size.result c.args.count c.args.out.now c.unpack.new.out c.in-Ok.end.bits c.word_size-size.ensures.size c.if-count-gt-MOST_WORDS.false c.if-size-count.false c.are_bytes.ensures c.in-Ok.ensures l c.unpack.ensures in
     record { answer = a; bytes = b; most = omega arith }

@@ -3,20 +3,20 @@ use Rattle.forms.proofs.Windows.{encoded-short}
 use Rattle.coder.proofs.Words.{laid-there, laid-not}
 use Rattle.coder.proofs.steps.put_word.Goals as goal
 
-pub returns-then-not-put-field : goal.returns-then-not-put-field
-returns-then-not-put-field g c =
+pub returns-then-not-put_field : goal.returns-then-not-put_field
+returns-then-not-put_field g c =
     let d = c.in-Some.coded in
     let C = g.C.Coder.coding c.args.coder.now in
     let e = c.in-Some.ensures in
     let h = encoded-short C (g.C.Coder.sound c.args.coder.now) c.args.memory c.args.word d.form.len d.form.bits d.next e in
-    let (a, b) = laid-not d.form.len d.form.bits d.next (encoded C c.args.memory c.args.word) e h c.args.at.bits c.args.buffer.now c.put-field.new.buffer c.put-field.result c.put-field.ensures.put c.put-field.ensures.bytes c.if-not-put-field.true in
+    let (a, b) = laid-not d.form.len d.form.bits d.next (encoded C c.args.memory c.args.word) e h c.args.at.bits c.args.buffer.now c.put_field.new.buffer c.put_field.result c.put_field.ensures.put c.put_field.ensures.bytes c.if-not-put_field.true in
     record { answer = a; bytes = b }
 
-pub returns-else-not-put-field : goal.returns-else-not-put-field
-returns-else-not-put-field g c =
+pub returns-else-not-put_field : goal.returns-else-not-put_field
+returns-else-not-put_field g c =
     let d = c.in-Some.coded in
     let C = g.C.Coder.coding c.args.coder.now in
     let e = c.in-Some.ensures in
     let h = encoded-short C (g.C.Coder.sound c.args.coder.now) c.args.memory c.args.word d.form.len d.form.bits d.next e in
-    let (a, b) = laid-there d.form.len d.form.bits d.next (encoded C c.args.memory c.args.word) e h c.args.at.bits c.args.buffer.now c.put-field.new.buffer c.put-field.result c.put-field.ensures.put c.put-field.ensures.bytes c.if-not-put-field.false in
+    let (a, b) = laid-there d.form.len d.form.bits d.next (encoded C c.args.memory c.args.word) e h c.args.at.bits c.args.buffer.now c.put_field.new.buffer c.put_field.result c.put_field.ensures.put c.put_field.ensures.bytes c.if-not-put_field.false in
     record { answer = a; bytes = b }

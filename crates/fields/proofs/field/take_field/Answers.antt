@@ -9,5 +9,5 @@ returns c =
     let f : List ℕ = c.args.file.now in
     let at : ℕ = c.bits-at.result in
     let n : ℕ = c.args.count in
-    let e : c.low.result ≡ field_at f at n = c.low.ensures ∙ ap (λ z. z % 2 ^ n) c.word-at.ensures ∙ field-front f at 64 n (omega arith) in
+    let e : c.low.result ≡ field_at f at n = c.low.ensures ∙ ap (λ z. z % 2 ^ n) c.word_at.ensures ∙ field-front f at 64 n (omega arith) in
     grind (arith, nat_tests)

@@ -19,7 +19,7 @@ returns c =
     let f : List ℕ = c.args.buffer.now in
     let p : ℕ = c.bytes-p.result in
     let l : length (take (p + 4 - p) (drop p f)) ≡ 4 = simp (length-take, length-drop) (omega arith) in
-    let w : c.write-u32.new.part ≡ bytes 4 (bits 32 c.args.value) = let y = c.write-u32.ensures.bytes in grind (arith, nat_tests) in
-    let e : put_mid p (p + 4 - p) f c.write-u32.new.part ≡ put_bits f (8 * p) (bits 32 c.args.value) = back f c.write-u32.new.part p (p + 4 - p) c.args.value (omega arith) (omega arith) c.are-bytes.ensures w in
-    let u = c.write-u32.ensures.written in
+    let w : c.write_u32.new.part ≡ bytes 4 (bits 32 c.args.value) = let y = c.write_u32.ensures.bytes in grind (arith, nat_tests) in
+    let e : put_mid p (p + 4 - p) f c.write_u32.new.part ≡ put_bits f (8 * p) (bits 32 c.args.value) = back f c.write_u32.new.part p (p + 4 - p) c.args.value (omega arith) (omega arith) c.are_bytes.ensures w in
+    let u = c.write_u32.ensures.written in
     record { put = grind (arith, nat_tests); bytes = grind (arith, nat_tests) }

@@ -5,6 +5,6 @@ use Rattle.fields.proofs.part.read_u32.Goals as goal
 
 pub returns : goal.returns
 returns c =
-    let e = field-four c.args.part.now 0 (omega arith) (λ i. (c.type-inv.part i).fits) in
-    let h = c.from-le-bytes.ensures in
+    let e = field-four c.args.part.now 0 (omega arith) (λ i. (c.type_inv.part i).fits) in
+    let h = c.from_le_bytes.ensures in
     grind (arith, nat_tests)

@@ -6,6 +6,6 @@ use Rattle.fields.proofs.part.write_u32.Goals as goal
 pub returns : goal.returns
 returns c =
     let b = bytes-four c.args.value in
-    let a = c.copy-from-slice.ensures.after in
-    let t = c.to-le-bytes.ensures in
+    let a = c.copy_from_slice.ensures.after in
+    let t = c.to_le_bytes.ensures in
     record { written = grind (arith, nat_tests); bytes = grind (arith, nat_tests) }

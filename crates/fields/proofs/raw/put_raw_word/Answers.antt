@@ -23,12 +23,12 @@ returns c =
     let f : List ℕ = c.args.raw.now in
     let p : ℕ = c.bytes-p.result in
     let n : ℕ = c.args.size in
-    let ys : List ℕ = c.copy-from-slice.new.self in
-    let (a, b, h) = raw-room p n (length f) c.lies-raw.result c.lies-raw.ensures c.if-not-lies-raw.false in
-    let t : true ≡ is_raw c.args.at.bytes n (length f) = sym c.if-not-lies-raw.false ∙ c.lies-raw.ensures ∙ ap (λ z. is_raw z n (length f)) c.bytes-p.ensures in
-    let w : c.to-le-bytes-bytes.result ≡ bytes 4 (bits 32 c.args.word) = c.to-le-bytes-bytes.ensures ∙ sym (bytes-four c.args.word) in
+    let ys : List ℕ = c.copy_from_slice.new.self in
+    let (a, b, h) = raw-room p n (length f) c.lies_raw.result c.lies_raw.ensures c.if-not-lies_raw.false in
+    let t : true ≡ is_raw c.args.at.bytes n (length f) = sym c.if-not-lies_raw.false ∙ c.lies_raw.ensures ∙ ap (λ z. is_raw z n (length f)) c.bytes-p.ensures in
+    let w : c.to_le_bytes-bytes.result ≡ bytes 4 (bits 32 c.args.word) = c.to_le_bytes-bytes.ensures ∙ sym (bytes-four c.args.word) in
     let e : put_mid p (p + n - p) f ys ≡ put_bits f (8 * p) (bits (8 * n) c.args.word) =
-    back f ys c.to-le-bytes-bytes.result p n (p + n - p) c.args.word (omega arith) b h c.are-bytes.ensures w c.copy-from-slice.ensures.after in
+    back f ys c.to_le_bytes-bytes.result p n (p + n - p) c.args.word (omega arith) b h c.are_bytes.ensures w c.copy_from_slice.ensures.after in
     record {
       put = t;
       bytes = e ∙ ap (λ z. put_bits f (8 * z) (bits (8 * n) c.args.word)) c.bytes-p.ensures ∙ ap (λ z. cond z (put_bits f (8 * c.args.at.bytes) (bits (8 * n) c.args.word)) f) t;

@@ -9,8 +9,8 @@ use Rattle.fields.proofs.word.+put_by_bytes.Goals.{then-count-room, else-count-r
 pub returns-then-count-eq0 : goal.returns-then-count-eq0
 returns-then-count-eq0 t c = put-none c.args.buffer.now (8 * c.args.p + c.args.shift) c.args.count c.args.value c.if-count-eq0.true
 
-pub overflow-cast-buffer-2 : goal.overflow-cast-buffer-2
-overflow-cast-buffer-2 t c =
+pub overflow_cast-buffer-2 : goal.overflow_cast-buffer-2
+overflow_cast-buffer-2 t c =
     let x : ℕ = get_or c.args.buffer.now c.args.p 0 in
     let s : ℕ = c.args.shift in
     let k : ℕ = c.if-count-room.part in
@@ -39,7 +39,7 @@ returns-then-part-count t c =
     let j : k + (n - k) ≡ n = omega arith in
     let g = put-more (bits_of f) (8 * p + s) k (n - k) n v j (omega (arith, length-bits_of f)) in
     let i : 8 * (p + 1) + 0 ≡ 8 * p + s + k = omega arith in
-    let e = c.put-by-bytes.ensures in
+    let e = c.put_by_bytes.ensures in
     cc
 
 pub returns-else-part-count : goal.returns-else-part-count

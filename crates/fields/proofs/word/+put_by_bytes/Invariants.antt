@@ -1,4 +1,4 @@
 use Rattle.fields.proofs.word.+put_by_bytes.Given as goal
 
-abbrev pub decreases-put-by-bytes : goal.decreases-put-by-bytes
-decreases-put-by-bytes l = l.count
+abbrev pub decreases-put_by_bytes : goal.decreases-put_by_bytes
+decreases-put_by_bytes l = l.count

@@ -22,10 +22,10 @@ returns-then-part-count t c =
     let n : ℕ = c.args.count in
     let k : ℕ = c.if-count-room.part in
     let m : s + k ≡ 8 = elim c.if-count-room.branch [ then-count-room w ↦ omega (arith, w.part-is) | else-count-room w ↦ omega (arith, w.part-is) ] in
-    let b = take-byte f p s k (omega arith) (omega arith) (c.type-inv.file p).fits in
+    let b = take-byte f p s k (omega arith) (omega arith) (c.type_inv.file p).fits in
     let i : 8 * (p + 1) + 0 ≡ 8 * p + s + k = omega arith in
-    take_more f (8 * p + s) k (n - k) n c.low-bits.result c.take-by-bytes.result (omega arith) (omega arith)
-    (c.low-bits.ensures ∙ b) (c.take-by-bytes.ensures ∙ ap (λ z. field_at f z (n - k)) i)
+    take_more f (8 * p + s) k (n - k) n c.low-bits.result c.take_by_bytes.result (omega arith) (omega arith)
+    (c.low-bits.ensures ∙ b) (c.take_by_bytes.ensures ∙ ap (λ z. field_at f z (n - k)) i)
 
 pub returns-else-part-count : goal.returns-else-part-count
 returns-else-part-count t c =
@@ -36,5 +36,5 @@ returns-else-part-count t c =
     let k : ℕ = c.if-count-room.part in
     let m : s + k ≤ 8 = elim c.if-count-room.branch [ then-count-room w ↦ omega (arith, w.part-is) | else-count-room w ↦ omega (arith, w.part-is) ] in
     let q : k ≡ n = elim c.if-count-room.branch [ then-count-room w ↦ omega (arith, w.part-is) | else-count-room w ↦ omega (arith, w.part-is) ] in
-    let b = take-byte f p s k (omega arith) m (c.type-inv.file p).fits in
+    let b = take-byte f p s k (omega arith) m (c.type_inv.file p).fits in
     c.low-bits.ensures ∙ b ∙ ap (λ z. field_at f (8 * p + s) z) q

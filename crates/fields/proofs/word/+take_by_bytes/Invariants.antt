@@ -1,4 +1,4 @@
 use Rattle.fields.proofs.word.+take_by_bytes.Given as goal
 
-abbrev pub decreases-take-by-bytes : goal.decreases-take-by-bytes
-decreases-take-by-bytes l = l.count
+abbrev pub decreases-take_by_bytes : goal.decreases-take_by_bytes
+decreases-take_by_bytes l = l.count

@@ -3,4 +3,4 @@ use Rattle.bits.proofs.Places.{field-eight}
 use Rattle.fields.proofs.word.load.Goals as goal
 
 pub returns : goal.returns
-returns c = c.from-le-bytes.ensures ∙ field-eight c.args.file.now c.args.p c.requires (λ i. (c.type-inv.file i).fits)
+returns c = c.from_le_bytes.ensures ∙ field-eight c.args.file.now c.args.p c.requires (λ i. (c.type_inv.file i).fits)

@@ -13,6 +13,6 @@ returns c =
     let e : p + k ≡ p + 8 = omega arith in
     let d : drop k (drop p f) ≡ drop (p + 8) f = drop-drop k p f ∙ ap (λ z. drop z f) e in
     let b = bytes-eight c.args.word in
-    let a = c.copy-from-slice.ensures.after in
-    let t = c.to-le-bytes.ensures in
+    let a = c.copy_from_slice.ensures.after in
+    let t = c.to_le_bytes.ensures in
     cc

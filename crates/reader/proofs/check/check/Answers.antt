@@ -13,57 +13,57 @@ use Rattle.reader.proofs.Claimed.{checking_stands}
 use Rattle.reader.proofs.Recordings.{check-long, check-no-head, check-no-sections, check-size, check-behind, check-on, handed-on}
 use Rattle.reader.proofs.check.check.Goals as goal
 
-pub returns-then-file-gt-MOST-BYTES : goal.returns-then-file-gt-MOST-BYTES
-returns-then-file-gt-MOST-BYTES c = record {
-  answer = ap (λ (p : ℕ). faults.fault 1 p) c.new.ensures ∙ check-long c.args.file.now (omega (arith, c.if-file-gt-MOST-BYTES.true));
+pub returns-then-file-gt-MOST_BYTES : goal.returns-then-file-gt-MOST_BYTES
+returns-then-file-gt-MOST_BYTES c = record {
+  answer = ap (λ (p : ℕ). faults.fault 1 p) c.new.ensures ∙ check-long c.args.file.now (omega (arith, c.if-file-gt-MOST_BYTES.true));
   stands = checking_stands;
 }
 
-pub returns-in-err-head : goal.returns-in-err-head
-returns-in-err-head c =
+pub returns-in_err-head : goal.returns-in_err-head
+returns-in_err-head c =
     let f : List ℕ = c.args.file.now in
-    let short : length f ≤ 16777216 = omega (arith, c.if-file-gt-MOST-BYTES.false) in
+    let short : length f ≤ 16777216 = omega (arith, c.if-file-gt-MOST_BYTES.false) in
     record {
-      answer = handed-on (λ (t : Totals). t) c.from-residual.result c.in-err-head.field-0.0 _ c.from-residual.ensures.1 (check-no-head f short c.in-err-head.ensures.head);
+      answer = handed-on (λ (t : Totals). t) c.from_residual.result c.in_err-head.field-0.0 _ c.from_residual.ensures.1 (check-no-head f short c.in_err-head.ensures.head);
       stands = checking_stands;
     }
 
-pub returns-in-err-sections : goal.returns-in-err-sections
-returns-in-err-sections c =
+pub returns-in_err-sections : goal.returns-in_err-sections
+returns-in_err-sections c =
     let f : List ℕ = c.args.file.now in
-    let short : length f ≤ 16777216 = omega (arith, c.if-file-gt-MOST-BYTES.false) in
-    let t = c.in-ok-head.head in
+    let short : length f ≤ 16777216 = omega (arith, c.if-file-gt-MOST_BYTES.false) in
+    let t = c.in_ok-head.head in
     let h : heads.Head = head_in f t.value in
-    let same = ap (λ (g : Flags). seen body_totals ((chain (flags g) 64 0).reads (bits_of f) t.at.bits t.last.bits)) c.flags-in-flags.ensures in
+    let same = ap (λ (g : Flags). seen body_totals ((chain (flags g) 64 0).reads (bits_of f) t.at.bits t.last.bits)) c.flags_in-flags.ensures in
     record {
-      answer = handed-on (λ (t : Totals). t) c.from-residual-in-err-sections.result c.in-err-sections.field-0.0 _ c.from-residual-in-err-sections.ensures.1
-          (check-no-sections f short h t.at.bits t.last.bits c.in-ok-head.ensures.head (c.in-err-sections.ensures ∙ same));
+      answer = handed-on (λ (t : Totals). t) c.from_residual-in_err-sections.result c.in_err-sections.field-0.0 _ c.from_residual-in_err-sections.ensures.1
+          (check-no-sections f short h t.at.bits t.last.bits c.in_ok-head.ensures.head (c.in_err-sections.ensures ∙ same));
       stands = checking_stands;
     }
 
-pub returns-then-not-is-right : goal.returns-then-not-is-right
-returns-then-not-is-right c =
+pub returns-then-not-is_right : goal.returns-then-not-is_right
+returns-then-not-is_right c =
     let f : List ℕ = c.args.file.now in
-    let short : length f ≤ 16777216 = omega (arith, c.if-file-gt-MOST-BYTES.false) in
-    let t = c.in-ok-head.head in
+    let short : length f ≤ 16777216 = omega (arith, c.if-file-gt-MOST_BYTES.false) in
+    let t = c.in_ok-head.head in
     let h : heads.Head = head_in f t.value in
-    let same = ap (λ (g : Flags). seen body_totals ((chain (flags g) 64 0).reads (bits_of f) t.at.bits t.last.bits)) c.flags-in-flags.ensures in
-    let s = c.in-ok-sections.sections in
+    let same = ap (λ (g : Flags). seen body_totals ((chain (flags g) 64 0).reads (bits_of f) t.at.bits t.last.bits)) c.flags_in-flags.ensures in
+    let s = c.in_ok-sections.sections in
     record {
-      answer = check-size f short h t.at.bits t.last.bits c.in-ok-head.ensures.head s.value s.at.bits s.last.bits (c.in-ok-sections.ensures ∙ same) (sym c.if-not-is-right.ensures);
+      answer = check-size f short h t.at.bits t.last.bits c.in_ok-head.ensures.head s.value s.at.bits s.last.bits (c.in_ok-sections.ensures ∙ same) (sym c.if-not-is_right.ensures);
       stands = checking_stands;
     }
 
 pub returns-then-bits-file : goal.returns-then-bits-file
 returns-then-bits-file c =
     let f : List ℕ = c.args.file.now in
-    let short : length f ≤ 16777216 = omega (arith, c.if-file-gt-MOST-BYTES.false) in
-    let t = c.in-ok-head.head in
+    let short : length f ≤ 16777216 = omega (arith, c.if-file-gt-MOST_BYTES.false) in
+    let t = c.in_ok-head.head in
     let h : heads.Head = head_in f t.value in
-    let same = ap (λ (g : Flags). seen body_totals ((chain (flags g) 64 0).reads (bits_of f) t.at.bits t.last.bits)) c.flags-in-flags.ensures in
-    let s = c.in-ok-sections.sections in
+    let same = ap (λ (g : Flags). seen body_totals ((chain (flags g) 64 0).reads (bits_of f) t.at.bits t.last.bits)) c.flags_in-flags.ensures in
+    let s = c.in_ok-sections.sections in
     record {
-      answer = check-behind f short h t.at.bits t.last.bits c.in-ok-head.ensures.head s.value s.at.bits s.last.bits (c.in-ok-sections.ensures ∙ same) (sym c.if-not-is-right.ensures)
+      answer = check-behind f short h t.at.bits t.last.bits c.in_ok-head.ensures.head s.value s.at.bits s.last.bits (c.in_ok-sections.ensures ∙ same) (sym c.if-not-is_right.ensures)
           (λ z. c.if-bits-file.true (c.bits.ensures ∙ z));
       stands = checking_stands;
     }
@@ -71,13 +71,13 @@ returns-then-bits-file c =
 pub returns : goal.returns
 returns c =
     let f : List ℕ = c.args.file.now in
-    let short : length f ≤ 16777216 = omega (arith, c.if-file-gt-MOST-BYTES.false) in
-    let t = c.in-ok-head.head in
+    let short : length f ≤ 16777216 = omega (arith, c.if-file-gt-MOST_BYTES.false) in
+    let t = c.in_ok-head.head in
     let h : heads.Head = head_in f t.value in
-    let same = ap (λ (g : Flags). seen body_totals ((chain (flags g) 64 0).reads (bits_of f) t.at.bits t.last.bits)) c.flags-in-flags.ensures in
-    let s = c.in-ok-sections.sections in
+    let same = ap (λ (g : Flags). seen body_totals ((chain (flags g) 64 0).reads (bits_of f) t.at.bits t.last.bits)) c.flags_in-flags.ensures in
+    let s = c.in_ok-sections.sections in
     record {
-      answer = check-on f short h t.at.bits t.last.bits c.in-ok-head.ensures.head s.value s.at.bits s.last.bits (c.in-ok-sections.ensures ∙ same) (sym c.if-not-is-right.ensures)
+      answer = check-on f short h t.at.bits t.last.bits c.in_ok-head.ensures.head s.value s.at.bits s.last.bits (c.in_ok-sections.ensures ∙ same) (sym c.if-not-is_right.ensures)
           (sym c.bits.ensures ∙ c.if-bits-file.false);
       stands = checking_stands;
     }

@@ -11,38 +11,38 @@ use Rattle.reader.proofs.check.pass_sections.Goals as goal
 pub loop-before-init : goal.loop-before-init
 loop-before-init c = (onward-start (flags c.args.flags) (bits_of c.args.source.bytes.now) c.args.at.bits c.args.last.bits, omega arith, omega arith, omega arith)
 
-pub returns-in-err-section : goal.returns-in-err-section
-returns-in-err-section c =
+pub returns-in_err-section : goal.returns-in_err-section
+returns-in_err-section c =
     let f : File = bits_of c.args.source.bytes.now in
     let g : slim.Flags = flags c.args.flags in
     let i : ℕ = c.loop-before.before in
     let p : ℕ = c.loop-before.end.bits in
     let l : ℕ = c.loop-before.tried.bits in
     let (so_far, _, _, _) = c.loop-before.invariant in
-    passed (λ t. t) c.from-residual.result c.in-err-section.field-0.0 _ c.from-residual.ensures.1
-    (pass-not g f i c.loop-before.words c.loop-before.raw p l _ c.loop-before-test.true refl _ _ (c.in-err-section.ensures l) ∙ so_far)
+    passed (λ t. t) c.from_residual.result c.in_err-section.field-0.0 _ c.from_residual.ensures.1
+    (pass-not g f i c.loop-before.words c.loop-before.raw p l _ c.loop-before-test.true refl _ _ (c.in_err-section.ensures l) ∙ so_far)
 
-pub overflow-add-words : goal.overflow-add-words
-overflow-add-words c =
+pub overflow_add-words : goal.overflow_add-words
+overflow_add-words c =
     let f : File = bits_of c.args.source.bytes.now in
     let g : slim.Flags = flags c.args.flags in
     let i : ℕ = c.loop-before.before in
     let p : ℕ = c.loop-before.end.bits in
     let l : ℕ = c.loop-before.tried.bits in
-    let s = c.in-ok-section.section in
+    let s = c.in_ok-section.section in
     let (_, few, most, _) = c.loop-before.invariant in
-    let (a, b) = pass-bounds g f i c.loop-before.words c.loop-before.raw p l _ c.loop-before-test.true refl s.value.raw s.value.words (closing_of f s.value.closing) s.at.bits s.last.bits (c.in-ok-section.ensures l) in
+    let (a, b) = pass-bounds g f i c.loop-before.words c.loop-before.raw p l _ c.loop-before-test.true refl s.value.raw s.value.words (closing_of f s.value.closing) s.at.bits s.last.bits (c.in_ok-section.ensures l) in
     omega (arith, a, b, few, most)
 
-pub overflow-add-raw : goal.overflow-add-raw
-overflow-add-raw c =
+pub overflow_add-raw : goal.overflow_add-raw
+overflow_add-raw c =
     let f : File = bits_of c.args.source.bytes.now in
     let g : slim.Flags = flags c.args.flags in
     let i : ℕ = c.loop-before.before in
     let p : ℕ = c.loop-before.end.bits in
     let l : ℕ = c.loop-before.tried.bits in
-    let s = c.in-ok-section.section in
-    let (a, _) = pass-bounds g f i c.loop-before.words c.loop-before.raw p l _ c.loop-before-test.true refl s.value.raw s.value.words (closing_of f s.value.closing) s.at.bits s.last.bits (c.in-ok-section.ensures l) in
+    let s = c.in_ok-section.section in
+    let (a, _) = pass-bounds g f i c.loop-before.words c.loop-before.raw p l _ c.loop-before-test.true refl s.value.raw s.value.words (closing_of f s.value.closing) s.at.bits s.last.bits (c.in_ok-section.ensures l) in
     omega (arith, a)
 
 pub returns-in-Ended : goal.returns-in-Ended
@@ -52,9 +52,9 @@ returns-in-Ended c =
     let i : ℕ = c.loop-before.before in
     let p : ℕ = c.loop-before.end.bits in
     let l : ℕ = c.loop-before.tried.bits in
-    let s = c.in-ok-section.section in
+    let s = c.in_ok-section.section in
     let (so_far, _, _, _) = c.loop-before.invariant in
-    pass-ended g f i c.loop-before.words c.loop-before.raw p l _ c.loop-before-test.true refl s.value.raw s.value.words s.value.closing c.in-Ended.leftovers s.at.bits s.last.bits c.in-Ended.is (c.in-ok-section.ensures l) ∙ so_far
+    pass-ended g f i c.loop-before.words c.loop-before.raw p l _ c.loop-before-test.true refl s.value.raw s.value.words s.value.closing c.in-Ended.leftovers s.at.bits s.last.bits c.in-Ended.is (c.in_ok-section.ensures l) ∙ so_far
 
 pub loop-before-preserved : goal.loop-before-preserved
 loop-before-preserved c =
@@ -63,10 +63,10 @@ loop-before-preserved c =
     let i : ℕ = c.loop-before.before in
     let p : ℕ = c.loop-before.end.bits in
     let l : ℕ = c.loop-before.tried.bits in
-    let s = c.in-ok-section.section in
+    let s = c.in_ok-section.section in
     let (so_far, few, most, _) = c.loop-before.invariant in
-    let (a, b) = pass-bounds g f i c.loop-before.words c.loop-before.raw p l _ c.loop-before-test.true refl s.value.raw s.value.words (closing_of f s.value.closing) s.at.bits s.last.bits (c.in-ok-section.ensures l) in (
-      pass-another g f i c.loop-before.words c.loop-before.raw p l _ c.loop-before-test.true refl s.value.raw s.value.words s.value.closing s.at.bits s.last.bits c.in-default.is (c.in-ok-section.ensures l) ∙ so_far,
+    let (a, b) = pass-bounds g f i c.loop-before.words c.loop-before.raw p l _ c.loop-before-test.true refl s.value.raw s.value.words (closing_of f s.value.closing) s.at.bits s.last.bits (c.in_ok-section.ensures l) in (
+      pass-another g f i c.loop-before.words c.loop-before.raw p l _ c.loop-before-test.true refl s.value.raw s.value.words s.value.closing s.at.bits s.last.bits c.in_default.is (c.in_ok-section.ensures l) ∙ so_far,
       omega (arith, b, few),
       a,
       omega (arith, c.loop-before-test.true),

@@ -12,31 +12,31 @@ use Rattle.reader.specs.Describing.{section_in, described, sizes, filled}
 use Rattle.reader.proofs.Describing.{checked-short, head-again, sought-there, sought-short, sought-on, sizes-of, rows-filled, few-rows, holds_section}
 use Rattle.reader.proofs.describe.describe.Goals as goal
 
-pub invariant-of-source : goal.invariant-of-source
-invariant-of-source c = (checked-short c.args.file.now c.in-ok-totals.totals c.in-ok-totals.ensures.answer, tt)
+pub invariant_of-source : goal.invariant_of-source
+invariant_of-source c = (checked-short c.args.file.now c.in_ok-totals.totals c.in_ok-totals.ensures.answer, tt)
 
-pub returns-in-err-head : goal.returns-in-err-head
-returns-in-err-head c = absurd (head-again c.args.file.now c.in-ok-totals.totals c.in-ok-totals.ensures.answer _ _ c.in-err-head.ensures.head)
+pub returns-in_err-head : goal.returns-in_err-head
+returns-in_err-head c = absurd (head-again c.args.file.now c.in_ok-totals.totals c.in_ok-totals.ensures.answer _ _ c.in_err-head.ensures.head)
 
-pub find-section-requires : goal.find-section-requires
-find-section-requires c =
+pub find_section-requires : goal.find_section-requires
+find_section-requires c =
     let f : List ℕ = c.args.file.now in
-    let x = c.in-ok-head.head in
+    let x = c.in_ok-head.head in
     record {
       table = refl;
-      there = sought-there f c.in-ok-totals.totals c.in-ok-totals.ensures.answer (head_in f x.value) x.at.bits x.last.bits c.in-ok-head.ensures.head
-          (flags c.flags-in-flags.result) (ap flags c.flags-in-flags.ensures) c.args.section c.if-section-totals.false;
+      there = sought-there f c.in_ok-totals.totals c.in_ok-totals.ensures.answer (head_in f x.value) x.at.bits x.last.bits c.in_ok-head.ensures.head
+          (flags c.flags_in-flags.result) (ap flags c.flags_in-flags.ensures) c.args.section c.if-section-totals.false;
     }
 
 pub returns-then-count-table : goal.returns-then-count-table
 returns-then-count-table c =
     let f : List ℕ = c.args.file.now in
     let t : List Channel = c.args.table.now in
-    let x = c.in-ok-head.head in
-    let (raw, many, held) = c.in-ok-found.ensures in
+    let x = c.in_ok-head.head in
+    let (raw, many, held) = c.in_ok-found.ensures in
     let short : faults.fault 2 0 ≡ described (read f) c.args.section (length t) =
-    sought-short f c.in-ok-totals.totals c.in-ok-totals.ensures.answer (head_in f x.value) x.at.bits x.last.bits c.in-ok-head.ensures.head
-    (flags c.flags-in-flags.result) (ap flags c.flags-in-flags.ensures) c.args.section c.if-section-totals.false (length t) (omega (arith, many, c.if-count-table.true)) in
+    sought-short f c.in_ok-totals.totals c.in_ok-totals.ensures.answer (head_in f x.value) x.at.bits x.last.bits c.in_ok-head.ensures.head
+    (flags c.flags_in-flags.result) (ap flags c.flags_in-flags.ensures) c.args.section c.if-section-totals.false (length t) (omega (arith, many, c.if-count-table.true)) in
     let same = ap (λ (a : Answer Section). filled a t) short in
     record {
       answer = ap (λ (p : ℕ). faults.fault 2 p) c.new-then-count-table.ensures ∙ ap sizes short;
@@ -44,35 +44,35 @@ returns-then-count-table c =
       accepted = holds_section f c.args.section t t same;
     }
 
-pub slice-bounds-rows-end : goal.slice-bounds-rows-end
-slice-bounds-rows-end c = let (_, many, held) = c.in-ok-found.ensures in few-rows c.in-ok-found.found.value.rows c.find-section.new.table _ many held
+pub slice_bounds-rows-end : goal.slice_bounds-rows-end
+slice_bounds-rows-end c = let (_, many, held) = c.in_ok-found.ensures in few-rows c.in_ok-found.found.value.rows c.find_section.new.table _ many held
 
-pub slice-bounds-copy-from-slice-end-3 : goal.slice-bounds-copy-from-slice-end-3
-slice-bounds-copy-from-slice-end-3 c =
-    let n : ℕ = c.in-ok-found.found.value.rows in
-    let (_, many, held) = c.in-ok-found.ensures in
-    omega (arith, length-take n c.find-section.new.table, few-rows n c.find-section.new.table _ many held)
+pub slice_bounds-copy_from_slice-end-3 : goal.slice_bounds-copy_from_slice-end-3
+slice_bounds-copy_from_slice-end-3 c =
+    let n : ℕ = c.in_ok-found.found.value.rows in
+    let (_, many, held) = c.in_ok-found.ensures in
+    omega (arith, length-take n c.find_section.new.table, few-rows n c.find_section.new.table _ many held)
 
-pub copy-from-slice-requires : goal.copy-from-slice-requires
-copy-from-slice-requires c =
-    let n : ℕ = c.in-ok-found.found.value.rows in
-    let (_, many, held) = c.in-ok-found.ensures in
-    omega (arith, length-take n c.find-section.new.table, length-take n c.args.table.now, few-rows n c.find-section.new.table _ many held, c.if-count-table.false)
+pub copy_from_slice-requires : goal.copy_from_slice-requires
+copy_from_slice-requires c =
+    let n : ℕ = c.in_ok-found.found.value.rows in
+    let (_, many, held) = c.in_ok-found.ensures in
+    omega (arith, length-take n c.find_section.new.table, length-take n c.args.table.now, few-rows n c.find_section.new.table _ many held, c.if-count-table.false)
 
 pub returns : goal.returns
 returns c =
     let f : List ℕ = c.args.file.now in
     let t : List Channel = c.args.table.now in
-    let x = c.in-ok-head.head in
-    let n : ℕ = c.in-ok-found.found.value.rows in
-    let (raw, many, held) = c.in-ok-found.ensures in
-    let s : Section = section_in ((chain (flags c.flags-in-flags.result) 64 0).reads (bits_of f) x.at.bits 0) c.args.section in
+    let x = c.in_ok-head.head in
+    let n : ℕ = c.in_ok-found.found.value.rows in
+    let (raw, many, held) = c.in_ok-found.ensures in
+    let s : Section = section_in ((chain (flags c.flags_in-flags.result) 64 0).reads (bits_of f) x.at.bits 0) c.args.section in
     let on : gives s ≡ described (read f) c.args.section (length t) =
-    sought-on f c.in-ok-totals.totals c.in-ok-totals.ensures.answer (head_in f x.value) x.at.bits x.last.bits c.in-ok-head.ensures.head
-    (flags c.flags-in-flags.result) (ap flags c.flags-in-flags.ensures) c.args.section c.if-section-totals.false (length t) (omega (arith, many, c.if-count-table.false)) in
-    let same = rows-filled s _ n t c.copy-from-slice.new.self on many (c.copy-from-slice.ensures.after ∙ held) in
+    sought-on f c.in_ok-totals.totals c.in_ok-totals.ensures.answer (head_in f x.value) x.at.bits x.last.bits c.in_ok-head.ensures.head
+    (flags c.flags_in-flags.result) (ap flags c.flags_in-flags.ensures) c.args.section c.if-section-totals.false (length t) (omega (arith, many, c.if-count-table.false)) in
+    let same = rows-filled s _ n t c.copy_from_slice.new.self on many (c.copy_from_slice.ensures.after ∙ held) in
     record {
-      answer = sizes-of s _ n c.in-ok-found.found.value.raw on many raw;
+      answer = sizes-of s _ n c.in_ok-found.found.value.raw on many raw;
       table = same;
       accepted = holds_section f c.args.section t _ same;
     }

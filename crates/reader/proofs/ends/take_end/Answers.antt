@@ -6,20 +6,20 @@ use Rattle.reading.proofs.Steps.{passed}
 use Rattle.reader.proofs.Closings.{end-not, end-room, end-over, end-last}
 use Rattle.reader.proofs.ends.take_end.Goals as goal
 
-pub returns-in-err-closing : goal.returns-in-err-closing
-returns-in-err-closing c l =
+pub returns-in_err-closing : goal.returns-in_err-closing
+returns-in_err-closing c l =
     let f : File = bits_of c.args.source.bytes.now in
-    passed (closing_of f) c.from-residual.result c.in-err-closing.field-0.0 _ c.from-residual.ensures.1 (end-not f c.args.at.bits l c.args.room (c.in-err-closing.ensures l))
+    passed (closing_of f) c.from_residual.result c.in_err-closing.field-0.0 _ c.from_residual.ensures.1 (end-not f c.args.at.bits l c.args.room (c.in_err-closing.ensures l))
 
 pub returns-then-room : goal.returns-then-room
 returns-then-room c l =
     let f : File = bits_of c.args.source.bytes.now in
-    end-room f c.args.at.bits l c.args.room (closing_of f c.in-ok-closing.closing.value) (c.in-ok-closing.ensures l) c.if-room.true
+    end-room f c.args.at.bits l c.args.room (closing_of f c.in_ok-closing.closing.value) (c.in_ok-closing.ensures l) c.if-room.true
 
-pub returns-then-goes-on : goal.returns-then-goes-on
-returns-then-goes-on c l =
-    end-over (bits_of c.args.source.bytes.now) c.args.at.bits l c.args.room c.in-ok-closing.closing.value (c.in-ok-closing.ensures l) (sym c.goes-on.ensures ∙ c.if-goes-on.true) c.if-room.false
+pub returns-then-goes_on : goal.returns-then-goes_on
+returns-then-goes_on c l =
+    end-over (bits_of c.args.source.bytes.now) c.args.at.bits l c.args.room c.in_ok-closing.closing.value (c.in_ok-closing.ensures l) (sym c.goes_on.ensures ∙ c.if-goes_on.true) c.if-room.false
 
 pub returns : goal.returns
 returns c l =
-    end-last (bits_of c.args.source.bytes.now) c.args.at.bits l c.args.room c.in-ok-closing.closing.value (c.in-ok-closing.ensures l) (sym c.goes-on.ensures ∙ c.if-goes-on.false)
+    end-last (bits_of c.args.source.bytes.now) c.args.at.bits l c.args.room c.in_ok-closing.closing.value (c.in_ok-closing.ensures l) (sym c.goes_on.ensures ∙ c.if-goes_on.false)

@@ -3,7 +3,7 @@ use Rattle.reader.proofs.Closings.{padding-on, padding-not}
 use Rattle.reader.proofs.ends.take_padding.Goals as goal
 
 pub returns-then-bits-source : goal.returns-then-bits-source
-returns-then-bits-source c = padding-not c.args.source.bytes.now c.args.at.bits c.args.last.bits c.whole-byte.result.bytes c.first-bit-end.result.bits c.args.source.small c.whole-byte.ensures c.first-bit-end.ensures (omega (arith, c.if-bits-source.true, c.bits.ensures))
+returns-then-bits-source c = padding-not c.args.source.bytes.now c.args.at.bits c.args.last.bits c.whole_byte.result.bytes c.first_bit-end.result.bits c.args.source.small c.whole_byte.ensures c.first_bit-end.ensures (omega (arith, c.if-bits-source.true, c.bits.ensures))
 
 pub returns : goal.returns
-returns c = padding-on c.args.source.bytes.now c.args.at.bits c.args.last.bits c.whole-byte.result.bytes c.first-bit-end.result.bits c.args.source.small c.whole-byte.ensures c.first-bit-end.ensures (omega (arith, c.if-bits-source.false, c.bits.ensures))
+returns c = padding-on c.args.source.bytes.now c.args.at.bits c.args.last.bits c.whole_byte.result.bytes c.first_bit-end.result.bits c.args.source.small c.whole_byte.ensures c.first_bit-end.ensures (omega (arith, c.if-bits-source.false, c.bits.ensures))

@@ -10,23 +10,23 @@ use Rattle.reader.proofs.Sound.{head-sound}
 use Rattle.reader.proofs.Passed.{section-no-head, section-rest}
 use Rattle.reader.proofs.rest.pass_section.Goals as goal
 
-pub returns-in-err-opening : goal.returns-in-err-opening
-returns-in-err-opening c l =
+pub returns-in_err-opening : goal.returns-in_err-opening
+returns-in_err-opening c l =
     let f : File = bits_of c.args.source.bytes.now in
-    passed (outline_in f) c.from-residual.result c.in-err-opening.field-0.0 _ c.from-residual.ensures.1
-    (section-no-head (flags c.args.flags) c.args.room c.args.total f c.args.at.bits l (c.in-err-opening.ensures.head l))
+    passed (outline_in f) c.from_residual.result c.in_err-opening.field-0.0 _ c.from_residual.ensures.1
+    (section-no-head (flags c.args.flags) c.args.room c.args.total f c.args.at.bits l (c.in_err-opening.ensures.head l))
 
-pub pass-rest-requires : goal.pass-rest-requires
-pass-rest-requires c =
+pub pass_rest-requires : goal.pass_rest-requires
+pass_rest-requires c =
     let f : File = bits_of c.args.source.bytes.now in
-    let t : List Channel = c.take-opening.new.table in
-    let o = c.in-ok-opening.opening in
+    let t : List Channel = c.take_opening.new.table in
+    let o = c.in_ok-opening.opening in
     record {
-      rows = c.in-ok-opening.ensures.rest.0;
-      countable = (head-sound (flags c.args.flags) c.args.total f c.args.at.bits 0 (head_in t o.value) o.at.bits o.last.bits (sym (c.in-ok-opening.ensures.head 0))).0;
+      rows = c.in_ok-opening.ensures.rest.0;
+      countable = (head-sound (flags c.args.flags) c.args.total f c.args.at.bits 0 (head_in t o.value) o.at.bits o.last.bits (sym (c.in_ok-opening.ensures.head 0))).0;
     }
 
 pub returns : goal.returns
 returns c l =
     let f : File = bits_of c.args.source.bytes.now in
-    section-rest (flags c.args.flags) c.args.room c.args.total f c.args.at.bits l (c.in-ok-opening.ensures.head l) c.pass-rest.ensures
+    section-rest (flags c.args.flags) c.args.room c.args.total f c.args.at.bits l (c.in_ok-opening.ensures.head l) c.pass_rest.ensures

@@ -13,23 +13,23 @@ returns-then-flags c = record {
   most = omega arith;
 }
 
-pub returns-in-err-count : goal.returns-in-err-count
-returns-in-err-count c =
+pub returns-in_err-count : goal.returns-in_err-count
+returns-in_err-count c =
     let f : File = bits_of c.args.source.bytes.now in
     record {
-      count = passed (λ n. n) c.from-residual.result c.in-err-count.field-0.0 _ c.from-residual.ensures.1
-          (count-not (flags c.args.flags) f c.args.at.bits c.args.last.bits c.if-flags.false (c.in-err-count.ensures c.args.last.bits));
-      most = passed_none (λ (t : Taken ℕ). t.value ≤ 32) c.from-residual.result c.in-err-count.field-0.0 c.from-residual.ensures.1;
+      count = passed (λ n. n) c.from_residual.result c.in_err-count.field-0.0 _ c.from_residual.ensures.1
+          (count-not (flags c.args.flags) f c.args.at.bits c.args.last.bits c.if-flags.false (c.in_err-count.ensures c.args.last.bits));
+      most = passed_none (λ (t : Taken ℕ). t.value ≤ 32) c.from_residual.result c.in_err-count.field-0.0 c.from_residual.ensures.1;
     }
 
 pub returns-then-rows-eq0 : goal.returns-then-rows-eq0
 returns-then-rows-eq0 c = record {
-  count = count-off (flags c.args.flags) (bits_of c.args.source.bytes.now) c.args.at.bits c.args.last.bits c.if-flags.false (c.in-ok-count.ensures c.args.last.bits) c.then-rows-eq0.either;
+  count = count-off (flags c.args.flags) (bits_of c.args.source.bytes.now) c.args.at.bits c.args.last.bits c.if-flags.false (c.in_ok-count.ensures c.args.last.bits) c.then-rows-eq0.either;
   most = tt;
 }
 
 pub returns : goal.returns
 returns c = record {
-  count = count-on (flags c.args.flags) (bits_of c.args.source.bytes.now) c.args.at.bits c.args.last.bits c.if-flags.false (c.in-ok-count.ensures c.args.last.bits) (omega (arith, c.if-rows-eq0.false)) c.if-rows-gt-MOST-CHANNELS.false;
-  most = c.if-rows-gt-MOST-CHANNELS.false;
+  count = count-on (flags c.args.flags) (bits_of c.args.source.bytes.now) c.args.at.bits c.args.last.bits c.if-flags.false (c.in_ok-count.ensures c.args.last.bits) (omega (arith, c.if-rows-eq0.false)) c.if-rows-gt-MOST_CHANNELS.false;
+  most = c.if-rows-gt-MOST_CHANNELS.false;
 }

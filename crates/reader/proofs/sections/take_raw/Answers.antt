@@ -5,18 +5,18 @@ use Rattle.reading.proofs.Steps.{passed}
 use Rattle.reader.proofs.Heads.{raw-not, raw-zero, raw-over, raw-on}
 use Rattle.reader.proofs.sections.take_raw.Goals as goal
 
-pub returns-in-err-raw : goal.returns-in-err-raw
-returns-in-err-raw c l =
+pub returns-in_err-raw : goal.returns-in_err-raw
+returns-in_err-raw c l =
     let f : File = bits_of c.args.source.bytes.now in
-    passed (λ v. v) c.from-residual.result c.in-err-raw.field-0.0 _ c.from-residual.ensures.1 (raw-not c.args.total f c.args.at.bits l (c.in-err-raw.ensures l))
+    passed (λ v. v) c.from_residual.result c.in_err-raw.field-0.0 _ c.from_residual.ensures.1 (raw-not c.args.total f c.args.at.bits l (c.in_err-raw.ensures l))
 
 pub returns-then-raw-eq0 : goal.returns-then-raw-eq0
-returns-then-raw-eq0 c l = raw-zero c.args.total (bits_of c.args.source.bytes.now) c.args.at.bits l (c.in-ok-raw.ensures l) c.if-raw-eq0.true
+returns-then-raw-eq0 c l = raw-zero c.args.total (bits_of c.args.source.bytes.now) c.args.at.bits l (c.in_ok-raw.ensures l) c.if-raw-eq0.true
 
 pub returns-then-raw-total : goal.returns-then-raw-total
 returns-then-raw-total c l =
-    raw-over c.args.total (bits_of c.args.source.bytes.now) c.args.at.bits l (c.in-ok-raw.ensures l) (omega (arith, c.if-raw-eq0.false)) (omega (arith, c.if-raw-total.true, c.requires))
+    raw-over c.args.total (bits_of c.args.source.bytes.now) c.args.at.bits l (c.in_ok-raw.ensures l) (omega (arith, c.if-raw-eq0.false)) (omega (arith, c.if-raw-total.true, c.requires))
 
 pub returns : goal.returns
 returns c l =
-    raw-on c.args.total (bits_of c.args.source.bytes.now) c.args.at.bits l (c.in-ok-raw.ensures l) (omega (arith, c.if-raw-eq0.false)) (omega (arith, c.if-raw-total.false, c.requires))
+    raw-on c.args.total (bits_of c.args.source.bytes.now) c.args.at.bits l (c.in_ok-raw.ensures l) (omega (arith, c.if-raw-eq0.false)) (omega (arith, c.if-raw-total.false, c.requires))

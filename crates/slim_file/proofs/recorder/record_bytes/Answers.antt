@@ -14,31 +14,31 @@ pub returns : goal.returns
 returns c =
     let raw : List ℕ = c.args.raw.now in
     let b : List ℕ = c.args.buffer.now in
-    let e : Edge = c.in-ok-between.between.edge in
+    let e : Edge = c.in_ok-between.between.edge in
     let a : Ok e ≡ begin_result 0 sized_only None None b =
-    c.in-ok-between.ensures.answer ∙ without (λ x y. begin_result 0 sized_only x y b) (option_map (λ x. x.now) c.absent.result) (option_map (λ x. x.now) c.absent-2.result) (ap (option_map (λ x. x.now)) c.absent.ensures) (ap (option_map (λ x. x.now)) c.absent-2.ensures) in
+    c.in_ok-between.ensures.answer ∙ without (λ x y. begin_result 0 sized_only x y b) (option_map (λ x. x.now) c.absent.result) (option_map (λ x. x.now) c.absent-2.result) (ap (option_map (λ x. x.now)) c.absent.ensures) (ap (option_map (λ x. x.now)) c.absent-2.ensures) in
     let w : c.begin.new.buffer ≡ begin_bytes 0 sized_only None None b =
     c.begin.ensures.bytes ∙ without (λ x y. begin_bytes 0 sized_only x y b) (option_map (λ x. x.now) c.absent.result) (option_map (λ x. x.now) c.absent-2.result) (ap (option_map (λ x. x.now)) c.absent.ensures) (ap (option_map (λ x. x.now)) c.absent-2.ensures) in
-    let r = rows_made c.in-ok-channel.field-0 c.in-ok-channel.ensures in
-    let l : ltb 32768 (length raw) ≡ false = le-ltb 32768 (length raw) (omega (arith, c.if-raw-gt-MOST-RAW.false)) in
+    let r = rows_made c.in_ok-channel.field-0 c.in_ok-channel.ensures in
+    let l : ltb 32768 (length raw) ≡ false = le-ltb 32768 (length raw) (omega (arith, c.if-raw-gt-MOST_RAW.false)) in
     record {
-      answer = answered raw b c.begin.new.buffer c.fill.new.buffer (c.in-ok-channel.field-0 ∷ []) c.fill.new.table e c.in-ok-inside.inside.spot (put c.end.result)
-          l a w r c.in-ok-inside.ensures.answer c.fill.ensures.bytes c.fill.ensures.table c.end.ensures.answer;
-      file = recorded raw b c.begin.new.buffer c.fill.new.buffer c.end.new.buffer (c.in-ok-channel.field-0 ∷ []) c.fill.new.table e c.in-ok-inside.inside.spot
-          (Bytes-from raw (λ i. (c.type-inv.raw i).fits)) a w r c.in-ok-inside.ensures.answer c.fill.ensures.bytes c.fill.ensures.table c.end.result c.end.ensures.answer c.end.ensures.bytes c.end.auto.buffer;
+      answer = answered raw b c.begin.new.buffer c.fill.new.buffer (c.in_ok-channel.field-0 ∷ []) c.fill.new.table e c.in_ok-inside.inside.spot (put c.end.result)
+          l a w r c.in_ok-inside.ensures.answer c.fill.ensures.bytes c.fill.ensures.table c.end.ensures.answer;
+      file = recorded raw b c.begin.new.buffer c.fill.new.buffer c.end.new.buffer (c.in_ok-channel.field-0 ∷ []) c.fill.new.table e c.in_ok-inside.inside.spot
+          (Bytes-from raw (λ i. (c.type_inv.raw i).fits)) a w r c.in_ok-inside.ensures.answer c.fill.ensures.bytes c.fill.ensures.table c.end.result c.end.ensures.answer c.end.ensures.bytes c.end.auto.buffer;
     }
 
-pub returns-in-err-inside : goal.returns-in-err-inside
-returns-in-err-inside c =
+pub returns-in_err-inside : goal.returns-in_err-inside
+returns-in_err-inside c =
     let raw : List ℕ = c.args.raw.now in
     let b : List ℕ = c.args.buffer.now in
-    let e : Edge = c.in-ok-between.between.edge in
+    let e : Edge = c.in_ok-between.between.edge in
     let a : Ok e ≡ begin_result 0 sized_only None None b =
-    c.in-ok-between.ensures.answer ∙ without (λ x y. begin_result 0 sized_only x y b) (option_map (λ x. x.now) c.absent.result) (option_map (λ x. x.now) c.absent-2.result) (ap (option_map (λ x. x.now)) c.absent.ensures) (ap (option_map (λ x. x.now)) c.absent-2.ensures) in
+    c.in_ok-between.ensures.answer ∙ without (λ x y. begin_result 0 sized_only x y b) (option_map (λ x. x.now) c.absent.result) (option_map (λ x. x.now) c.absent-2.result) (ap (option_map (λ x. x.now)) c.absent.ensures) (ap (option_map (λ x. x.now)) c.absent-2.ensures) in
     let w : c.begin.new.buffer ≡ begin_bytes 0 sized_only None None b =
     c.begin.ensures.bytes ∙ without (λ x y. begin_bytes 0 sized_only x y b) (option_map (λ x. x.now) c.absent.result) (option_map (λ x. x.now) c.absent-2.result) (ap (option_map (λ x. x.now)) c.absent.ensures) (ap (option_map (λ x. x.now)) c.absent-2.ensures) in
-    let r = rows_made c.in-ok-channel.field-0 c.in-ok-channel.ensures in
-    let l : ltb 32768 (length raw) ≡ false = le-ltb 32768 (length raw) (omega (arith, c.if-raw-gt-MOST-RAW.false)) in
-    let p = err_from_is_err_and c.from-residual-in-err-inside.result c.from-residual-in-err-inside.ensures.1 in
-    let q = fill-refused raw b c.begin.new.buffer (c.in-ok-channel.field-0 ∷ []) e (trouble c.in-err-inside.field-0.0) l a w r c.in-err-inside.ensures.answer in
+    let r = rows_made c.in_ok-channel.field-0 c.in_ok-channel.ensures in
+    let l : ltb 32768 (length raw) ≡ false = le-ltb 32768 (length raw) (omega (arith, c.if-raw-gt-MOST_RAW.false)) in
+    let p = err_from_is_err_and c.from_residual-in_err-inside.result c.from_residual-in_err-inside.ensures.1 in
+    let q = fill-refused raw b c.begin.new.buffer (c.in_ok-channel.field-0 ∷ []) e (trouble c.in_err-inside.field-0.0) l a w r c.in_err-inside.ensures.answer in
     rw (p.1, p.2) (record { answer = q; file = tt })

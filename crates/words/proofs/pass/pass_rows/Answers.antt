@@ -13,8 +13,8 @@ use Rattle.words.proofs.pass.pass_rows.Goals as goal
 pub loop-i-init : goal.loop-i-init
 loop-i-init c =
     let t : List Channel = c.args.table.now in
-    let T = c.first-turn-turn.result in
-    let (a, b, m) = c.first-turn-turn.ensures in (
+    let T = c.first_turn-turn.result in
+    let (a, b, m) = c.first_turn-turn.ensures in (
       ap (λ k. places (turn_read (settings t) k (turn_of (length t) T) (bits_of c.args.file.now) c.bits-end.result c.bits-tried.result)) (sub-zero c.args.count)
           ∙ ap (λ z. places (turn_read (settings t) c.args.count z (bits_of c.args.file.now) c.bits-end.result c.bits-tried.result)) (first-is t T.channel T.given T.memories c.requires.rows a b m),
       (omega (arith, a, rows-many t, (table_kept (settings t) c.requires.rows).some), omega (arith, b)),
@@ -39,7 +39,7 @@ loop-i-preserved c =
     let n : ℕ = c.args.count in
     let w = c.in-Ok.word in
     let l = c.loop-i in (
-      rows_more cs f n l.i (turn_of (length t) l.turn) l.end l.tried c.new.result.bits c.loop-i-test.true c.new.ensures (turn_of (length t) c.take-next.new.turn) w.word w.len c.in-Ok.ensures.word c.in-Ok.ensures.turn
+      rows_more cs f n l.i (turn_of (length t) l.turn) l.end l.tried c.new.result.bits c.loop-i-test.true c.new.ensures (turn_of (length t) c.take_next.new.turn) w.word w.len c.in-Ok.ensures.word c.in-Ok.ensures.turn
           ∙ c.loop-i.invariant.0,
       c.in-Ok.ensures.running,
     )

@@ -14,9 +14,9 @@ bounds-turn-channel c = row-few c.args.table.now c.args.turn.now.channel c.requi
 pub bounds-turn-channel-2 : goal.bounds-turn-channel-2
 bounds-turn-channel-2 c = row-few c.args.table.now c.args.turn.now.channel c.requires.rows c.requires.running.0
 
-pub returns-in-default : goal.returns-in-default
-returns-in-default c =
-    let z : true ≡ false = sym (row-ruled c.args.table.now c.args.turn.now.channel c.requires.rows c.requires.running.0) ∙ c.in-default.ensures in
+pub returns-in_default : goal.returns-in_default
+returns-in_default c =
+    let z : true ≡ false = sym (row-ruled c.args.table.now c.args.turn.now.channel c.requires.rows c.requires.running.0) ∙ c.in_default.ensures in
     let y : ◌≡◌ {A = ℕ} 0 1 = cc in absurd (omega arith)
 
 pub returns-in-Err : goal.returns-in-Err
@@ -31,8 +31,8 @@ returns-in-Err c =
       running = c.requires.running;
     }
 
-pub overflow-add-turn : goal.overflow-add-turn
-overflow-add-turn c = omega (arith, c.requires.running.1)
+pub overflow_add-turn : goal.overflow_add-turn
+overflow_add-turn c = omega (arith, c.requires.running.1)
 
 pub returns-after-channel-table : goal.returns-after-channel-table
 returns-after-channel-table c =

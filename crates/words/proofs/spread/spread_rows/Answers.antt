@@ -14,8 +14,8 @@ pub loop-i-init : goal.loop-i-init
 loop-i-init c =
     let t : List Channel = c.args.table.now in
     let f : List ℕ = c.args.file.now in
-    let T = c.first-turn-turn.result in
-    let (a, b, m) = c.first-turn-turn.ensures in (
+    let T = c.first_turn-turn.result in
+    let (a, b, m) = c.first_turn-turn.ensures in (
       ap (λ k. turn_spread (settings t) f k (turn_of (length t) T) c.bits-end.result c.args.out.now c.bytes-to.result) (sub-zero c.args.count)
           ∙ ap (λ z. turn_spread (settings t) f c.args.count z c.bits-end.result c.args.out.now c.bytes-to.result) (first-is t T.channel T.given T.memories c.requires.rows a b m),
       (omega (arith, a, rows-many t, (table_kept (settings t) c.requires.rows).some), omega (arith, b)),
@@ -31,16 +31,16 @@ returns-in-Err c =
     rows-fault t f n c.requires.rows l.i (turn_of (length t) l.turn) c.loop-i.invariant.1.0 l.end l.out l.to c.loop-i-test.true c.new.result.bits c.new.ensures (number_of x.kind) x.place.bits c.in-Err.ensures.word
     ∙ c.loop-i.invariant.0 ∙ rows_all t f n c.bits-end.result c.bytes-to.result c.args.at.bits c.args.from.bytes c.args.out.now c.bits-end.ensures c.bytes-to.ensures
 
-pub returns-then-not-put-raw-word : goal.returns-then-not-put-raw-word
-returns-then-not-put-raw-word c =
+pub returns-then-not-put_raw_word : goal.returns-then-not-put_raw_word
+returns-then-not-put_raw_word c =
     let t : List Channel = c.args.table.now in
     let f : List ℕ = c.args.file.now in
     let n : ℕ = c.args.count in
     let l = c.loop-i in
     let w = c.in-Ok.word in
     rows-full t f n c.requires.rows l.i (turn_of (length t) l.turn) c.loop-i.invariant.1.0 l.end l.out l.to c.loop-i-test.true c.new.result.bits c.new.ensures w.word w.len c.in-Ok.ensures.word
-    c.new-in-Ok.result.bytes c.word-bytes-size.result c.new-in-Ok.ensures c.word-bytes-size.ensures.bytes c.word-bytes-size.ensures.most
-    c.put-raw-word.result c.put-raw-word.new.raw c.put-raw-word.ensures.put c.put-raw-word.ensures.bytes (sym c.if-not-put-raw-word.true)
+    c.new-in-Ok.result.bytes c.word_bytes-size.result c.new-in-Ok.ensures c.word_bytes-size.ensures.bytes c.word_bytes-size.ensures.most
+    c.put_raw_word.result c.put_raw_word.new.raw c.put_raw_word.ensures.put c.put_raw_word.ensures.bytes (sym c.if-not-put_raw_word.true)
     ∙ c.loop-i.invariant.0 ∙ rows_all t f n c.bits-end.result c.bytes-to.result c.args.at.bits c.args.from.bytes c.args.out.now c.bits-end.ensures c.bytes-to.ensures
 
 pub loop-i-preserved : goal.loop-i-preserved
@@ -51,8 +51,8 @@ loop-i-preserved c =
     let l = c.loop-i in
     let w = c.in-Ok.word in (
       (rows_more t f n c.requires.rows l.i (turn_of (length t) l.turn) c.loop-i.invariant.1.0 l.end l.out l.to c.loop-i-test.true c.new.result.bits c.new.ensures w.word w.len c.in-Ok.ensures.word
-          c.new-in-Ok.result.bytes c.word-bytes-size.result c.new-in-Ok.ensures c.word-bytes-size.ensures.bytes c.word-bytes-size.ensures.most
-          c.put-raw-word.result c.put-raw-word.new.raw c.put-raw-word.ensures.put c.put-raw-word.ensures.bytes (turn_of (length t) c.take-next.new.turn) c.in-Ok.ensures.turn (sym c.if-not-put-raw-word.false)).0
+          c.new-in-Ok.result.bytes c.word_bytes-size.result c.new-in-Ok.ensures c.word_bytes-size.ensures.bytes c.word_bytes-size.ensures.most
+          c.put_raw_word.result c.put_raw_word.new.raw c.put_raw_word.ensures.put c.put_raw_word.ensures.bytes (turn_of (length t) c.take_next.new.turn) c.in-Ok.ensures.turn (sym c.if-not-put_raw_word.false)).0
           ∙ c.loop-i.invariant.0,
       c.in-Ok.ensures.running,
     )

@@ -8,8 +8,8 @@ use Rattle.heads.specs.Heads.{head_fits}
 use Rattle.writer.proofs.Begun.{zeros-behind, placed, no-fault, head_place}
 use Rattle.writer.proofs.begin.begin.Goals as goal
 
-pub invariant-of-result : goal.invariant-of-result
-invariant-of-result c =
+pub invariant_of-result : goal.invariant_of-result
+invariant_of-result c =
     let name : Option (List ℕ) = option_map (λ x. x.now) c.args.name in
     let extra : Option (List ℕ) = option_map (λ x. x.now) c.args.extra in
     let h : List Bool = head c.args.stamp c.args.flags name extra in
@@ -27,11 +27,11 @@ returns c =
     let p = placed (head_fits name extra h (length b)) n (length h / 8) c.in-Some.ensures.place in
     let k = head_place c.args.stamp (marks c.args.flags) name extra (length b) n p in
     let o : begin_fault name extra h (length b) ≡ None = no-fault name extra h (length b) p.0 in
-    let at : c.first-bit.result.bits ≡ length h = c.first-bit.ensures ∙ omega (arith, k.bits, k.limit, k.place) in
-    let w : c.clear-from.new.buffer ≡ put_bits (replicate (length b) 0) 0 h =
-    c.clear-from.ensures
-    ∙ ap (λ z. cleared_from c.put-head.new.buffer z) at
-    ∙ ap (λ z. cleared_from z (length h)) (c.put-head.ensures.bytes ∙ ap (λ t. cond t (put_bits b 0 h) b) p.0)
+    let at : c.first_bit.result.bits ≡ length h = c.first_bit.ensures ∙ omega (arith, k.bits, k.limit, k.place) in
+    let w : c.clear_from.new.buffer ≡ put_bits (replicate (length b) 0) 0 h =
+    c.clear_from.ensures
+    ∙ ap (λ z. cleared_from c.put_head.new.buffer z) at
+    ∙ ap (λ z. cleared_from z (length h)) (c.put_head.ensures.bytes ∙ ap (λ t. cond t (put_bits b 0 h) b) p.0)
     ∙ zeros-behind b h (omega (arith, k.bits, k.place)) in
     let e : c.in-Some.at.bytes ≡ length h / 8 = p.1 in
     let edge : ℕ → Edge = λ n. record { len = length b; flags = c.args.flags; at = record { bytes = n }; sections = 0; raw = 0 } in

@@ -11,7 +11,7 @@ loop-row-preserved c =
     let t : List Channel = c.loop-row.table in
     let i = c.loop-row.row-index in
     let h : i < length t = omega (arith, c.loop-row-test.true, c.loop-row.auto.table) in
-    ap (set t i) c.at-rest.ensures ∙ map_over_more rested c.args.table.now t i (get_or t i no_row) c.loop-row-test.true c.loop-row.invariant (get_or_default t i no_row (get_or t i no_row) h)
+    ap (set t i) c.at_rest.ensures ∙ map_over_more rested c.args.table.now t i (get_or t i no_row) c.loop-row-test.true c.loop-row.invariant (get_or_default t i no_row (get_or t i no_row) h)
 
 pub returns : goal.returns
 returns c =

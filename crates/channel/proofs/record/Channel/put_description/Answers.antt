@@ -20,9 +20,9 @@ returns-then-recorded c =
     let D = description_bits c.args.recorded s in
     let w : D ≡ bits 24 s.repeats ++ description_bits false s = ap (λ t. description_bits t s) c.if-recorded.true ∙ repeats-first s in
     let l = length-recorded s in
-    let fit : at + length D ≤ 8 * length f = omega (arith, c.bits.ensures, c.plus-end.ensures, c.description-len.ensures.len, c.description-len.ensures.most) in
-    let t : describes s D at (length f) ≡ true = there s D at (length f) (omega arith) (sym c.if-not-keeps-rules.false ∙ c.keeps-rules.ensures) fit in
-    let u = two_fields f c.put-field.new.buffer c.put-field-then-recorded.new.buffer at c.plus.result.bits s.repeats 24 c.fields-fields.result c.fields-len-len.result (description_bits false s) c.put-field-then-recorded.result
-    (omega arith) (omega arith) (omega (arith, ap length (ap (λ t. description_bits t s) c.if-recorded.true))) c.fields-len-len.ensures.len (omega (arith, c.fields-len-len.ensures.most)) c.fields-fields.ensures
-    c.plus.ensures c.put-field.ensures.bytes c.put-field-then-recorded.ensures.put c.put-field-then-recorded.ensures.bytes in
+    let fit : at + length D ≤ 8 * length f = omega (arith, c.bits.ensures, c.plus-end.ensures, c.description_len.ensures.len, c.description_len.ensures.most) in
+    let t : describes s D at (length f) ≡ true = there s D at (length f) (omega arith) (sym c.if-not-keeps_rules.false ∙ c.keeps_rules.ensures) fit in
+    let u = two_fields f c.put_field.new.buffer c.put_field-then-recorded.new.buffer at c.plus.result.bits s.repeats 24 c.fields-fields.result c.fields_len-len.result (description_bits false s) c.put_field-then-recorded.result
+    (omega arith) (omega arith) (omega (arith, ap length (ap (λ t. description_bits t s) c.if-recorded.true))) c.fields_len-len.ensures.len (omega (arith, c.fields_len-len.ensures.most)) c.fields-fields.ensures
+    c.plus.ensures c.put_field.ensures.bytes c.put_field-then-recorded.ensures.put c.put_field-then-recorded.ensures.bytes in
     record { put = u.0 ∙ sym t; bytes = u.1 ∙ ap (put_bits f at) (sym w) ∙ ap (λ b. cond b (put_bits f at D) f) (sym t) }

@@ -3,18 +3,18 @@ use Rattle.forms.proofs.Coders.{delta-sound}
 use Rattle.coder.proofs.Changes.{over, delta-writes}
 use Rattle.coder.proofs.delta.DeltaCoder.encode.Goals as goal
 
-pub returns-then-not-is-word : goal.returns-then-not-is-word
-returns-then-not-is-word g c =
+pub returns-then-not-is_word : goal.returns-then-not-is_word
+returns-then-not-is_word g c =
     let s = c.args.self.now.inner in
     let w = g.C.Coder.wide s in
-    over (delta w (g.C.Coder.coding s)) (delta-sound w (g.C.Coder.coding s) (g.C.Coder.sound s)) c.args.memory c.args.word c.word-width-width.result.bits c.is-word.result c.word-width-width.ensures c.is-word.ensures c.if-not-is-word.true
+    over (delta w (g.C.Coder.coding s)) (delta-sound w (g.C.Coder.coding s) (g.C.Coder.sound s)) c.args.memory c.args.word c.word_width-width.result.bits c.is_word.result c.word_width-width.ensures c.is_word.ensures c.if-not-is_word.true
 
 pub returns-in-None : goal.returns-in-None
 returns-in-None g c =
     let s = c.args.self.now.inner in
-    delta-writes (g.C.Coder.coding s) (g.C.Coder.sound s) c.word-width-width.result.bits c.word-width-width.ensures c.args.memory c.args.word c.difference.result c.is-word.result c.is-word.ensures c.if-not-is-word.false c.difference.ensures _ c.in-None.ensures
+    delta-writes (g.C.Coder.coding s) (g.C.Coder.sound s) c.word_width-width.result.bits c.word_width-width.ensures c.args.memory c.args.word c.difference.result c.is_word.result c.is_word.ensures c.if-not-is_word.false c.difference.ensures _ c.in-None.ensures
 
 pub returns-in-Some : goal.returns-in-Some
 returns-in-Some g c =
     let s = c.args.self.now.inner in
-    delta-writes (g.C.Coder.coding s) (g.C.Coder.sound s) c.word-width-width.result.bits c.word-width-width.ensures c.args.memory c.args.word c.difference.result c.is-word.result c.is-word.ensures c.if-not-is-word.false c.difference.ensures _ c.in-Some.ensures
+    delta-writes (g.C.Coder.coding s) (g.C.Coder.sound s) c.word_width-width.result.bits c.word_width-width.ensures c.args.memory c.args.word c.difference.result c.is_word.result c.is_word.ensures c.if-not-is_word.false c.difference.ensures _ c.in-Some.ensures

@@ -24,7 +24,7 @@ returns-then-above-ones g c =
     let n : R ≤ 32 = let i = s.most in let j = s.width.1 in omega arith in
     let m = mask R x n in
     let l : x % 2 ^ R < 2 ^ R - 1 = omega (arith, m, ones R n, c.if-above-ones.true) in
-    let e : c.sum.result ≡ plus W s.pedestal (x % 2 ^ R) = plus-at c.word-width-width.result.bits W s.pedestal (bit_and x ((1 * 2 ^ R) % 2 ^ 64 - 1)) (x % 2 ^ R) c.sum.result c.word-width-width.ensures m c.sum.ensures in
+    let e : c.sum.result ≡ plus W s.pedestal (x % 2 ^ R) = plus-at c.word_width-width.result.bits W s.pedestal (bit_and x ((1 * 2 ^ R) % 2 ^ 64 - 1)) (x % 2 ^ R) c.sum.result c.word_width-width.ensures m c.sum.ensures in
     plain_word (reduced W R s.pedestal) c.args.memory (bits a.len x) c.sum.result R
     (reduced-near W R s.pedestal a.len x c.if-window-self.false l ∙ ap (λ (z : ℕ). form (Some z) R) (sym e))
 
@@ -50,7 +50,7 @@ returns-then-difference-ones g c =
     let o = ones R n in
     let l : 2 ^ R - 1 ≤ x % 2 ^ R = omega (arith, mask R x n, o, c.if-above-ones.false) in
     let v = mask W (x / 2 ^ R) s.width.1 in
-    let d : c.difference.result ≡ minus W s.pedestal ((x / 2 ^ R) % 2 ^ W) = minus-at c.word-width-width.result.bits W s.pedestal (bit_and (x / 2 ^ R) ((1 * 2 ^ W) % 2 ^ 64 - 1)) ((x / 2 ^ R) % 2 ^ W) c.difference.result c.word-width-width.ensures v c.difference.ensures in
+    let d : c.difference.result ≡ minus W s.pedestal ((x / 2 ^ R) % 2 ^ W) = minus-at c.word_width-width.result.bits W s.pedestal (bit_and (x / 2 ^ R) ((1 * 2 ^ W) % 2 ^ 64 - 1)) ((x / 2 ^ R) % 2 ^ W) c.difference.result c.word_width-width.ensures v c.difference.ensures in
     let k : minus W s.pedestal ((x / 2 ^ R) % 2 ^ W) < 2 ^ R - 1 = omega (arith, d, o, c.if-difference-ones.true) in
     plain-dead (reduced W R s.pedestal) c.args.memory (bits a.len x) (R + W) (reduced-dead W R s.pedestal a.len x c.if-window-len.false l k)
 
@@ -65,7 +65,7 @@ returns-else-difference-ones g c =
     let o = ones R n in
     let l : 2 ^ R - 1 ≤ x % 2 ^ R = omega (arith, mask R x n, o, c.if-above-ones.false) in
     let v = mask W (x / 2 ^ R) s.width.1 in
-    let d : c.difference.result ≡ minus W s.pedestal ((x / 2 ^ R) % 2 ^ W) = minus-at c.word-width-width.result.bits W s.pedestal (bit_and (x / 2 ^ R) ((1 * 2 ^ W) % 2 ^ 64 - 1)) ((x / 2 ^ R) % 2 ^ W) c.difference.result c.word-width-width.ensures v c.difference.ensures in
+    let d : c.difference.result ≡ minus W s.pedestal ((x / 2 ^ R) % 2 ^ W) = minus-at c.word_width-width.result.bits W s.pedestal (bit_and (x / 2 ^ R) ((1 * 2 ^ W) % 2 ^ 64 - 1)) ((x / 2 ^ R) % 2 ^ W) c.difference.result c.word_width-width.ensures v c.difference.ensures in
     let k : 2 ^ R - 1 ≤ minus W s.pedestal ((x / 2 ^ R) % 2 ^ W) = omega (arith, d, o, c.if-difference-ones.false) in
     plain_word (reduced W R s.pedestal) c.args.memory (bits a.len x) _ (R + W)
     (reduced-far W R s.pedestal a.len x c.if-window-len.false l k ∙ ap (λ (z : ℕ). form (Some z) (R + W)) (sym v))

@@ -14,8 +14,8 @@ fits p have n l b e t = omega (arith, leb-true (8 * p + (have + n)) (8 * l) (sym
 is_field-fits : (at n l : ℕ) → n ≤ 64 → at + n ≤ 8 * l → true ≡ is_field at n l
 is_field-fits at n l h k = grind (arith, nat_tests)
 
-pub invariant-of-self : goal.invariant-of-self
-invariant-of-self c =
+pub invariant_of-self : goal.invariant_of-self
+invariant_of-self c =
     let w : ℕ = c.args.self.now.word in
     let have : ℕ = c.args.self.now.have in
     let v : ℕ = c.args.value in
@@ -40,8 +40,8 @@ returns-then-have-lt64 c =
       refused = λ _. refl;
     }
 
-pub invariant-of-self-2 : goal.invariant-of-self-2
-invariant-of-self-2 c =
+pub invariant_of-self-2 : goal.invariant_of-self-2
+invariant_of-self-2 c =
     let w : ℕ = c.args.self.now.word in
     let have : ℕ = c.args.self.now.have in
     let v : ℕ = c.args.value in
@@ -74,7 +74,7 @@ returns c =
     let s : g ≡ stored f p 8 (bit_or w ((v % 2 ^ n * 2 ^ have) % 2 ^ 64)) = c.store.ensures ∙ ap (λ z. stored f p 8 (bit_or w ((z * 2 ^ have) % 2 ^ 64))) e in
     record {
       pushed = is_field-fits (8 * p + have) n (length f) (omega arith) fit;
-      held = full_put w have v n c.args.self.now.clean c.args.self.now.few (omega arith) f g p r c.are-bytes.ensures (omega arith) fit s rest;
+      held = full_put w have v n c.args.self.now.clean c.args.self.now.few (omega arith) f g p r c.are_bytes.ensures (omega arith) fit s rest;
       end = omega arith;
       refused = λ z. let q : ◌≡◌ {A = ℕ} 0 1 = cc in absurd (omega arith);
     }

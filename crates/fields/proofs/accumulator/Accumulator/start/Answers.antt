@@ -14,10 +14,10 @@ pub returns : goal.returns
 returns c =
     let f : List ℕ = c.args.buffer.now in
     let at : ℕ = c.bits-at.result in
-    let fit : at + 0 ≤ 8 * length f = leb-true (at + 0) (8 * length f) (sym c.lies-within.ensures ∙ c.if-not-lies-within.false) in
+    let fit : at + 0 ≤ 8 * length f = leb-true (at + 0) (8 * length f) (sym c.lies_within.ensures ∙ c.if-not-lies_within.false) in
     let e = c.bits-at.ensures in
     let s : put_bits f (8 * (at / 8)) (bits (at % 8) c.if-have-eq0.word) ≡ f = elim c.if-have-eq0.branch [
-      | then-have-eq0 x ↦ no_bits f (8 * (at / 8)) (at % 8) c.if-have-eq0.word x.if-have-eq0.true c.are-bytes.ensures
-      | else-have-eq0 x ↦ put_low f (at / 8) (at % 8) c.if-have-eq0.word (omega arith) (omega arith) c.are-bytes.ensures (x.word-is ∙ x.low_word.ensures)
+      | then-have-eq0 x ↦ no_bits f (8 * (at / 8)) (at % 8) c.if-have-eq0.word x.if-have-eq0.true c.are_bytes.ensures
+      | else-have-eq0 x ↦ put_low f (at / 8) (at % 8) c.if-have-eq0.word (omega arith) (omega arith) c.are_bytes.ensures (x.word-is ∙ x.low_word.ensures)
     ] in
     (s, omega arith)

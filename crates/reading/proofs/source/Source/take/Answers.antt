@@ -6,16 +6,16 @@ use Rattle.reading.proofs.source.Source.take.Goals as goal
 
 pub returns-then-count-eq0 : goal.returns-then-count-eq0
 returns-then-count-eq0 c l =
-    fault-is c.fault-at.result _ c.args.at _ c.fault-at.ensures (no_bits (bits_of c.args.self.bytes.now) c.args.at.bits c.args.count l c.if-count-eq0.true)
+    fault-is c.fault_at.result _ c.args.at _ c.fault_at.ensures (no_bits (bits_of c.args.self.bytes.now) c.args.at.bits c.args.count l c.if-count-eq0.true)
 
 pub returns-then-not-remains : goal.returns-then-not-remains
 returns-then-not-remains c l =
-    fault-is c.fault-at-then-not-remains.result _ c.args.at _ c.fault-at-then-not-remains.ensures
+    fault-is c.fault_at-then-not-remains.result _ c.args.at _ c.fault_at-then-not-remains.ensures
     (not_left (bits_of c.args.self.bytes.now) c.args.at.bits c.args.count l c.remains.result c.remains.ensures c.if-not-remains.true)
 
 pub returns-in-None : goal.returns-in-None
 returns-in-None c l =
-    fault-is c.fault-at-in-None.result _ c.args.at _ c.fault-at-in-None.ensures
+    fault-is c.fault_at-in-None.result _ c.args.at _ c.fault_at-in-None.ensures
     (too_wide c.args.self.bytes.now c.args.at.bits c.args.count l c.in-None.ensures (sym c.if-not-remains.ensures))
 
 pub returns-in-Some : goal.returns-in-Some

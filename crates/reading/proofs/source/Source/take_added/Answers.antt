@@ -10,86 +10,86 @@ use Rattle.reading.proofs.source.Source.take_added.Goals as goal
 
 pub returns-then-width-eq0 : goal.returns-then-width-eq0
 returns-then-width-eq0 c n d b =
-    let w = c.width-of-width.result in
+    let w = c.width_of-width.result in
     nothing-on n d b c.args.algorithm c.args.kind (bits_of c.args.self.bytes.now) c.args.at.bits c.args.last.bits
-    (no-width w c.args.kind c.args.algorithm 1 c.width-of-width.ensures (omega (arith, c.if-width-eq0.true)))
-    (no-width w c.args.kind c.args.algorithm 6 c.width-of-width.ensures (omega (arith, c.if-width-eq0.true)))
+    (no-width w c.args.kind c.args.algorithm 1 c.width_of-width.ensures (omega (arith, c.if-width-eq0.true)))
+    (no-width w c.args.kind c.args.algorithm 6 c.width_of-width.ensures (omega (arith, c.if-width-eq0.true)))
 
-pub returns-in-default : goal.returns-in-default
-returns-in-default c n d b =
+pub returns-in_default : goal.returns-in_default
+returns-in_default c n d b =
     nothing-on n d b c.args.algorithm c.args.kind (bits_of c.args.self.bytes.now) c.args.at.bits c.args.last.bits
     (other-algorithm c.args.kind c.args.algorithm 1 (λ h. omega arith)) (other-algorithm c.args.kind c.args.algorithm 6 (λ h. omega arith))
 
-pub returns-in-err-pedestal : goal.returns-in-err-pedestal
-returns-in-err-pedestal c n d b =
+pub returns-in_err-pedestal : goal.returns-in_err-pedestal
+returns-in_err-pedestal c n d b =
     let f : File = bits_of c.args.self.bytes.now in
     let t = c.args.kind in
-    let w = c.width-of-width.result in
+    let w = c.width_of-width.result in
     let a = c.args.algorithm in
     let p = c.args.at.bits in
     let l = c.args.last.bits in
-    passed (with_added n d b a t) c.from-residual.result c.in-err-pedestal.field-0.0 _ c.from-residual.ensures.1
+    passed (with_added n d b a t) c.from_residual.result c.in_err-pedestal.field-0.0 _ c.from_residual.ensures.1
     (reduced-not n d b a t f p l
-    (is-algorithm w t a 1 c.width-of-width.ensures (omega (arith, c.if-width-eq0.false)) c.in-1.is)
-    (word-field w t f p l _ c.width-of-width.ensures (omega (arith, c.if-width-eq0.false)) (c.in-err-pedestal.ensures l)))
+    (is-algorithm w t a 1 c.width_of-width.ensures (omega (arith, c.if-width-eq0.false)) c.in-1.is)
+    (word-field w t f p l _ c.width_of-width.ensures (omega (arith, c.if-width-eq0.false)) (c.in_err-pedestal.ensures l)))
 
-pub returns-in-err-less : goal.returns-in-err-less
-returns-in-err-less c n d b =
+pub returns-in_err-less : goal.returns-in_err-less
+returns-in_err-less c n d b =
     let f : File = bits_of c.args.self.bytes.now in
     let t = c.args.kind in
-    let w = c.width-of-width.result in
+    let w = c.width_of-width.result in
     let a = c.args.algorithm in
     let p = c.args.at.bits in
     let l = c.args.last.bits in
-    passed (with_added n d b a t) c.from-residual-in-err-less.result c.in-err-less.field-0.0 _ c.from-residual-in-err-less.ensures.1
+    passed (with_added n d b a t) c.from_residual-in_err-less.result c.in_err-less.field-0.0 _ c.from_residual-in_err-less.ensures.1
     (reduced-less n d b a t f p l
-    (is-algorithm w t a 1 c.width-of-width.ensures (omega (arith, c.if-width-eq0.false)) c.in-1.is)
-    (word-field w t f p l _ c.width-of-width.ensures (omega (arith, c.if-width-eq0.false)) (c.in-ok-pedestal.ensures l))
-    (c.in-err-less.ensures _))
+    (is-algorithm w t a 1 c.width_of-width.ensures (omega (arith, c.if-width-eq0.false)) c.in-1.is)
+    (word-field w t f p l _ c.width_of-width.ensures (omega (arith, c.if-width-eq0.false)) (c.in_ok-pedestal.ensures l))
+    (c.in_err-less.ensures _))
 
-pub overflow-add-result : goal.overflow-add-result
-overflow-add-result c =
-    let t = c.in-ok-less.less in
-    omega (arith, taking-small 32 5 (bits_of c.args.self.bytes.now) c.in-ok-pedestal.pedestal.at.bits 0 t.value t.at.bits t.last.bits (c.in-ok-less.ensures 0))
+pub overflow_add-result : goal.overflow_add-result
+overflow_add-result c =
+    let t = c.in_ok-less.less in
+    omega (arith, taking-small 32 5 (bits_of c.args.self.bytes.now) c.in_ok-pedestal.pedestal.at.bits 0 t.value t.at.bits t.last.bits (c.in_ok-less.ensures 0))
 
-pub returns-in-ok-less : goal.returns-in-ok-less
-returns-in-ok-less c n d b =
+pub returns-in_ok-less : goal.returns-in_ok-less
+returns-in_ok-less c n d b =
     let f : File = bits_of c.args.self.bytes.now in
     let t = c.args.kind in
-    let w = c.width-of-width.result in
+    let w = c.width_of-width.result in
     let a = c.args.algorithm in
     let p = c.args.at.bits in
     let l = c.args.last.bits in
-    let x = c.in-ok-less.less in
-    let v = c.in-ok-pedestal.pedestal.value in
+    let x = c.in_ok-less.less in
+    let v = c.in_ok-pedestal.pedestal.value in
     let up : x.value + 1 ≡ suc x.value = omega arith in
     ap (λ (r : ℕ). got (record { repeats = n; delta = eqb d 1; turn = b; algorithm = a; kind = t; narrow = r; value = v }) x.at.bits x.last.bits) up
     ∙ reduced-on n d b a t f p l
-    (is-algorithm w t a 1 c.width-of-width.ensures (omega (arith, c.if-width-eq0.false)) c.in-1.is)
-    (word-field w t f p l _ c.width-of-width.ensures (omega (arith, c.if-width-eq0.false)) (c.in-ok-pedestal.ensures l))
-    (c.in-ok-less.ensures _)
+    (is-algorithm w t a 1 c.width_of-width.ensures (omega (arith, c.if-width-eq0.false)) c.in-1.is)
+    (word-field w t f p l _ c.width_of-width.ensures (omega (arith, c.if-width-eq0.false)) (c.in_ok-pedestal.ensures l))
+    (c.in_ok-less.ensures _)
 
-pub returns-in-err-word : goal.returns-in-err-word
-returns-in-err-word c n d b =
+pub returns-in_err-word : goal.returns-in_err-word
+returns-in_err-word c n d b =
     let f : File = bits_of c.args.self.bytes.now in
     let t = c.args.kind in
-    let w = c.width-of-width.result in
+    let w = c.width_of-width.result in
     let a = c.args.algorithm in
     let p = c.args.at.bits in
     let l = c.args.last.bits in
-    passed (with_added n d b a t) c.from-residual-in-err-word.result c.in-err-word.field-0.0 _ c.from-residual-in-err-word.ensures.1
+    passed (with_added n d b a t) c.from_residual-in_err-word.result c.in_err-word.field-0.0 _ c.from_residual-in_err-word.ensures.1
     (constant-not n d b a t f p l (six-not-one t a c.in-6.is)
-    (is-algorithm w t a 6 c.width-of-width.ensures (omega (arith, c.if-width-eq0.false)) c.in-6.is)
-    (word-field w t f p l _ c.width-of-width.ensures (omega (arith, c.if-width-eq0.false)) (c.in-err-word.ensures l)))
+    (is-algorithm w t a 6 c.width_of-width.ensures (omega (arith, c.if-width-eq0.false)) c.in-6.is)
+    (word-field w t f p l _ c.width_of-width.ensures (omega (arith, c.if-width-eq0.false)) (c.in_err-word.ensures l)))
 
-pub returns-in-ok-word : goal.returns-in-ok-word
-returns-in-ok-word c n d b =
+pub returns-in_ok-word : goal.returns-in_ok-word
+returns-in_ok-word c n d b =
     let f : File = bits_of c.args.self.bytes.now in
     let t = c.args.kind in
-    let w = c.width-of-width.result in
+    let w = c.width_of-width.result in
     let a = c.args.algorithm in
     let p = c.args.at.bits in
     let l = c.args.last.bits in
     constant-on n d b a t f p l (six-not-one t a c.in-6.is)
-    (is-algorithm w t a 6 c.width-of-width.ensures (omega (arith, c.if-width-eq0.false)) c.in-6.is)
-    (word-field w t f p l _ c.width-of-width.ensures (omega (arith, c.if-width-eq0.false)) (c.in-ok-word.ensures l))
+    (is-algorithm w t a 6 c.width_of-width.ensures (omega (arith, c.if-width-eq0.false)) c.in-6.is)
+    (word-field w t f p l _ c.width_of-width.ensures (omega (arith, c.if-width-eq0.false)) (c.in_ok-word.ensures l))

@@ -12,18 +12,18 @@ returns-then-not-flagged c = record {
   place = tt;
 }
 
-pub returns-in-err-extra : goal.returns-in-err-extra
-returns-in-err-extra c =
-    let r = c.from-residual.result in
-    let e = c.in-err-extra.field-0.0 in
+pub returns-in_err-extra : goal.returns-in_err-extra
+returns-in_err-extra c =
+    let r = c.from_residual.result in
+    let e = c.in_err-extra.field-0.0 in
     record {
-      bytes = passed (option_map (part_bytes c.args.self.bytes.now)) r e _ c.from-residual.ensures.1
-          (flagged-not c.args.flagged extra_bytes (bits_of c.args.self.bytes.now) c.args.at.bits c.args.last.bits c.if-not-flagged.false (c.in-err-extra.ensures.bytes _));
-      place = passed_none _ r e c.from-residual.ensures.1;
+      bytes = passed (option_map (part_bytes c.args.self.bytes.now)) r e _ c.from_residual.ensures.1
+          (flagged-not c.args.flagged extra_bytes (bits_of c.args.self.bytes.now) c.args.at.bits c.args.last.bits c.if-not-flagged.false (c.in_err-extra.ensures.bytes _));
+      place = passed_none _ r e c.from_residual.ensures.1;
     }
 
 pub returns : goal.returns
 returns c = record {
-  bytes = flagged-on c.args.flagged extra_bytes (bits_of c.args.self.bytes.now) c.args.at.bits c.args.last.bits c.if-not-flagged.false (c.in-ok-extra.ensures.bytes _);
-  place = c.in-ok-extra.ensures.place;
+  bytes = flagged-on c.args.flagged extra_bytes (bits_of c.args.self.bytes.now) c.args.at.bits c.args.last.bits c.if-not-flagged.false (c.in_ok-extra.ensures.bytes _);
+  place = c.in_ok-extra.ensures.place;
 }

@@ -14,20 +14,20 @@ returns-then-not-flagged c = record {
   behind = omega arith;
 }
 
-pub returns-in-err-name : goal.returns-in-err-name
-returns-in-err-name c =
-    let r = c.from-residual.result in
-    let e = c.in-err-name.field-0.0 in
+pub returns-in_err-name : goal.returns-in_err-name
+returns-in_err-name c =
+    let r = c.from_residual.result in
+    let e = c.in_err-name.field-0.0 in
     record {
-      bytes = passed (option_map (part_bytes c.args.self.bytes.now)) r e _ c.from-residual.ensures.1
-          (flagged-not c.args.flagged (name_bytes 255) (bits_of c.args.self.bytes.now) c.args.at.bits c.args.last.bits c.if-not-flagged.false (c.in-err-name.ensures.bytes _));
-      place = passed_none _ r e c.from-residual.ensures.1;
-      behind = passed_none _ r e c.from-residual.ensures.1;
+      bytes = passed (option_map (part_bytes c.args.self.bytes.now)) r e _ c.from_residual.ensures.1
+          (flagged-not c.args.flagged (name_bytes 255) (bits_of c.args.self.bytes.now) c.args.at.bits c.args.last.bits c.if-not-flagged.false (c.in_err-name.ensures.bytes _));
+      place = passed_none _ r e c.from_residual.ensures.1;
+      behind = passed_none _ r e c.from_residual.ensures.1;
     }
 
 pub returns : goal.returns
 returns c = record {
-  bytes = flagged-on c.args.flagged (name_bytes 255) (bits_of c.args.self.bytes.now) c.args.at.bits c.args.last.bits c.if-not-flagged.false (c.in-ok-name.ensures.bytes _);
-  place = c.in-ok-name.ensures.place;
-  behind = c.in-ok-name.ensures.behind;
+  bytes = flagged-on c.args.flagged (name_bytes 255) (bits_of c.args.self.bytes.now) c.args.at.bits c.args.last.bits c.if-not-flagged.false (c.in_ok-name.ensures.bytes _);
+  place = c.in_ok-name.ensures.place;
+  behind = c.in_ok-name.ensures.behind;
 }

@@ -5,4 +5,4 @@ pub returns-then-not-recorded : goal.returns-then-not-recorded
 returns-then-not-recorded c = choose-off _ _ _ c.if-not-recorded.true (whole-on _ _ _ _)
 
 pub returns : goal.returns
-returns c = choose-on _ _ _ c.if-not-recorded.false (c.take-number.ensures _)
+returns c = choose-on _ _ _ c.if-not-recorded.false (c.take_number.ensures _)

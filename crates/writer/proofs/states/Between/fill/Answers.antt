@@ -76,7 +76,7 @@ returns-in-Err-pour c =
     let a : Err (trouble c.in-Err-pour.fault) ≡ poured_result p cut = c.in-Err-pour.ensures.answer ∙ ap (λ z. poured_result z (cut_short (settings c.open.new.table) raw)) q ∙ ap (poured_result p) k in
     let (f, (l, n)) = met (λ f. f) p.sum (later_fault p cut) (trouble c.in-Err-pour.fault) a in
     let r = fills-by e b t raw None (Some f) o l in
-    let i : c.edge-of.result.edge ≡ e = c.edge-of.ensures ∙ ap (λ (z : Spot). z.edge) (c.pour.ensures.state ∙ ap (λ (z : Putting). z.spot) q) ∙ fill-edge e b t raw in
+    let i : c.edge_of.result.edge ≡ e = c.edge_of.ensures ∙ ap (λ (z : Spot). z.edge) (c.pour.ensures.state ∙ ap (λ (z : Putting). z.spot) q) ∙ fill-edge e b t raw in
     let j : c.in-Ok.inside.spot.edge ≡ e = ap (λ (z : Spot). z.edge) s in
     let w : c.pour.new.buffer ≡ poured_bytes p cut (start c.in-Ok.inside.spot.edge) = c.pour.ensures.bytes ∙ ap (λ z. poured_bytes z (cut_short (settings c.open.new.table) raw) (start c.in-Ok.inside.spot.edge)) q ∙ ap (λ z. poured_bytes p z (start c.in-Ok.inside.spot.edge)) k in
     record {

@@ -11,39 +11,39 @@ use Rattle.openings.specs.Openings.{openable, opening}
 use Rattle.writer.proofs.Opening.{wrong_count-is, wrong_rows, by-room, there, not_there, came_back, section-least, fits-within, at_least_one}
 use Rattle.writer.proofs.states.Between.open.Goals as goal
 
-pub returns-then-is-wrong-count : goal.returns-then-is-wrong-count
-returns-then-is-wrong-count c =
+pub returns-then-is_wrong_count : goal.returns-then-is_wrong_count
+returns-then-is_wrong_count c =
     let e : Edge = c.args.self.edge in
-    let o = wrong_count-is e c.args.buffer.now c.args.table.now c.if-buffer-edge.false (sym c.if-is-wrong-count.ensures) in
-    let d = c.denied-then-is-wrong-count.ensures in
-    let at : c.first-bit-start.result.bits ≡ start e = c.first-bit-start.ensures ∙ omega (arith, c.args.self.place, c.args.self.limit) in
-    let r = came_back e c.args.buffer.now c.args.table.now c.denied-then-is-wrong-count.result 5 (start e) o d.0 (ap number_of d.1.0) (ap (λ p. p.bits) d.1.1 ∙ at) in
+    let o = wrong_count-is e c.args.buffer.now c.args.table.now c.if-buffer-edge.false (sym c.if-is_wrong_count.ensures) in
+    let d = c.denied-then-is_wrong_count.ensures in
+    let at : c.first_bit-start.result.bits ≡ start e = c.first_bit-start.ensures ∙ omega (arith, c.args.self.place, c.args.self.limit) in
+    let r = came_back e c.args.buffer.now c.args.table.now c.denied-then-is_wrong_count.result 5 (start e) o d.0 (ap number_of d.1.0) (ap (λ p. p.bits) d.1.1 ∙ at) in
     record { answer = r.answer; bytes = r.bytes; table = r.table }
 
-pub returns-then-not-rows-describable : goal.returns-then-not-rows-describable
-returns-then-not-rows-describable c =
+pub returns-then-not-rows_describable : goal.returns-then-not-rows_describable
+returns-then-not-rows_describable c =
     let e : Edge = c.args.self.edge in
-    let o = wrong_rows e c.args.buffer.now c.args.table.now c.repeats-recorded.result c.if-buffer-edge.false (sym c.if-is-wrong-count.ensures) c.repeats-recorded.ensures c.if-not-rows-describable.ensures in
-    let d = c.denied-then-not-rows-describable.ensures in
-    let at : c.first-bit-start.result.bits ≡ start e = c.first-bit-start.ensures ∙ omega (arith, c.args.self.place, c.args.self.limit) in
-    let r = came_back e c.args.buffer.now c.args.table.now c.denied-then-not-rows-describable.result 6 (start e) o d.0 (ap number_of d.1.0) (ap (λ p. p.bits) d.1.1 ∙ at) in
+    let o = wrong_rows e c.args.buffer.now c.args.table.now c.repeats_recorded.result c.if-buffer-edge.false (sym c.if-is_wrong_count.ensures) c.repeats_recorded.ensures c.if-not-rows_describable.ensures in
+    let d = c.denied-then-not-rows_describable.ensures in
+    let at : c.first_bit-start.result.bits ≡ start e = c.first_bit-start.ensures ∙ omega (arith, c.args.self.place, c.args.self.limit) in
+    let r = came_back e c.args.buffer.now c.args.table.now c.denied-then-not-rows_describable.result 6 (start e) o d.0 (ap number_of d.1.0) (ap (λ p. p.bits) d.1.1 ∙ at) in
     record { answer = r.answer; bytes = r.bytes; table = r.table }
 
-pub returns-in-default : goal.returns-in-default
-returns-in-default c =
+pub returns-in_default : goal.returns-in_default
+returns-in_default c =
     let e : Edge = c.args.self.edge in
     let b : List ℕ = c.args.buffer.now in
     let t : List Channel = c.args.table.now in
-    let n = not_there (openable (length b) e.at.bytes e.flags t) (8 * e.at.bytes + length (opening e.flags t)) c.in-default.ensures.place in
-    let o = by-room e b t c.repeats-recorded.result false c.if-buffer-edge.false (omega (arith, c.if-buffer-edge.false, c.args.self.limit)) (sym c.if-is-wrong-count.ensures) c.repeats-recorded.ensures c.if-not-rows-describable.ensures n in
-    let d = c.denied-in-default.ensures in
-    let at : c.first-bit-start.result.bits ≡ start e = c.first-bit-start.ensures ∙ omega (arith, c.args.self.place, c.args.self.limit) in
-    let r = came_back e b t c.denied-in-default.result 2 (start e) o d.0 (ap number_of d.1.0) (ap (λ p. p.bits) d.1.1 ∙ at) in
-    let w : c.put-opening.new.buffer ≡ b = c.put-opening.ensures.bytes ∙ ap (λ z. cond z (put_bits b (8 * e.at.bytes) (opening e.flags t)) b) n in
+    let n = not_there (openable (length b) e.at.bytes e.flags t) (8 * e.at.bytes + length (opening e.flags t)) c.in_default.ensures.place in
+    let o = by-room e b t c.repeats_recorded.result false c.if-buffer-edge.false (omega (arith, c.if-buffer-edge.false, c.args.self.limit)) (sym c.if-is_wrong_count.ensures) c.repeats_recorded.ensures c.if-not-rows_describable.ensures n in
+    let d = c.denied-in_default.ensures in
+    let at : c.first_bit-start.result.bits ≡ start e = c.first_bit-start.ensures ∙ omega (arith, c.args.self.place, c.args.self.limit) in
+    let r = came_back e b t c.denied-in_default.result 2 (start e) o d.0 (ap number_of d.1.0) (ap (λ p. p.bits) d.1.1 ∙ at) in
+    let w : c.put_opening.new.buffer ≡ b = c.put_opening.ensures.bytes ∙ ap (λ z. cond z (put_bits b (8 * e.at.bytes) (opening e.flags t)) b) n in
     record { answer = r.answer; bytes = w ∙ r.bytes; table = r.table }
 
-pub invariant-of-result : goal.invariant-of-result
-invariant-of-result c =
+pub invariant_of-result : goal.invariant_of-result
+invariant_of-result c =
     let e : Edge = c.args.self.edge in
     let b : List ℕ = c.args.buffer.now in
     let t : List Channel = c.args.table.now in
@@ -52,7 +52,7 @@ invariant-of-result c =
     let l = section-least e t in
     let h = c.if-buffer-edge.false in
     let k : length c.rest.new.table ≡ length t = c.rest.auto.table in
-    let one = at_least_one e.flags (length t) (sym c.if-is-wrong-count.ensures) in
+    let one = at_least_one e.flags (length t) (sym c.if-is_wrong_count.ensures) in
     (c.args.self.limit, (omega (arith, p, f, h), (c.args.self.head, (omega (arith, p, l), (c.args.self.sections, (omega (arith, c.args.self.raw), (omega (arith, k, one), (omega arith, tt))))))))
 
 pub returns : goal.returns
@@ -61,13 +61,13 @@ returns c =
     let b : List ℕ = c.args.buffer.now in
     let t : List Channel = c.args.table.now in
     let (y, p) = there (openable (length b) e.at.bytes e.flags t) c.in-Some.at.bits (8 * e.at.bytes + length (opening e.flags t)) c.in-Some.ensures.place in
-    let o = by-room e b t c.repeats-recorded.result true c.if-buffer-edge.false (omega (arith, c.if-buffer-edge.false, c.args.self.limit)) (sym c.if-is-wrong-count.ensures) c.repeats-recorded.ensures c.if-not-rows-describable.ensures y in
+    let o = by-room e b t c.repeats_recorded.result true c.if-buffer-edge.false (omega (arith, c.if-buffer-edge.false, c.args.self.limit)) (sym c.if-is_wrong_count.ensures) c.repeats_recorded.ensures c.if-not-rows_describable.ensures y in
     let k : length c.rest.new.table ≡ length t = c.rest.auto.table in
     let spot : ℕ → ℕ → Spot = λ at n. record { edge = e; at = record { bits = at }; rows = n; channel = 0; given = 0; raw = 0 } in
     let r : ◌≡◌ {A = Result Spot (Edge × Trouble)} (Ok (spot c.in-Some.at.bits (length c.rest.new.table))) (Ok (open_spot e (section e t) (length t))) =
     ap (λ z. Ok (spot z (length c.rest.new.table))) p ∙ ap (λ z. Ok (spot (start e + length (section e t)) z)) k in
     record {
       answer = r ∙ sym (ap (λ o. calls.answer o (open_spot e (section e t) (length t)) (λ f. (e, f))) o);
-      bytes = c.put-opening.ensures.bytes ∙ ap (λ z. cond z (put_bits b (8 * e.at.bytes) (opening e.flags t)) b) y ∙ sym (ap (λ o. calls.unless o b (put_bits b (start e) (section e t))) o);
+      bytes = c.put_opening.ensures.bytes ∙ ap (λ z. cond z (put_bits b (8 * e.at.bytes) (opening e.flags t)) b) y ∙ sym (ap (λ o. calls.unless o b (put_bits b (start e) (section e t))) o);
       table = c.rest.ensures ∙ sym (ap (λ o. calls.unless o t (map rested t)) o);
     }

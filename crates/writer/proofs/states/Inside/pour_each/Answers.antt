@@ -6,11 +6,11 @@ use Rattle.writer.proofs.states.Inside.pour_each.Goals as goal
 pub loop-at-init : goal.loop-at-init
 loop-at-init c = starts c.args.self.now.spot c.args.buffer.now c.args.table.now c.args.raw.now c.requires.first.0 c.requires.first.1 c.requires.lengths.0 c.requires.lengths.1
 
-pub returns-in-default : goal.returns-in-default
-returns-in-default c =
+pub returns-in_default : goal.returns-in_default
+returns-in_default c =
     let l = c.loop-at in
-    let size = c.word-bytes-size in
-    let w = looked-at None c.new.result.bytes l.at size.result c.args.raw.now c.new.ensures c.in-default.ensures in
+    let size = c.word_bytes-size in
+    let w = looked-at None c.new.result.bytes l.at size.result c.args.raw.now c.new.ensures c.in_default.ensures in
     let r = cut_off c.args.self.now.spot c.args.buffer.now c.args.table.now c.args.raw.now l.self.spot l.buffer l.table l.at l.bits l.invariant c.requires.rows.0 c.requires.rows.1 l.self.turn
     size.result size.ensures.bytes size.ensures.most c.loop-at-test.true w in
     record { answer = r.answer; state = r.state; bytes = r.bytes; table = r.table }
@@ -18,7 +18,7 @@ returns-in-default c =
 pub returns-in-Err : goal.returns-in-Err
 returns-in-Err c =
     let l = c.loop-at in
-    let size = c.word-bytes-size in
+    let size = c.word_bytes-size in
     let p = c.in-Err.ensures in
     let w = looked-at (Some c.in-Some.word) c.new.result.bytes l.at size.result c.args.raw.now c.new.ensures c.in-Some.ensures in
     let r = stuck c.args.self.now.spot c.args.buffer.now c.args.table.now c.args.raw.now l.self.spot l.buffer l.table l.at l.bits l.invariant c.requires.rows.0 c.requires.rows.1 l.self.turn
@@ -28,7 +28,7 @@ returns-in-Err c =
 pub loop-at-preserved : goal.loop-at-preserved
 loop-at-preserved c =
     let l = c.loop-at in
-    let size = c.word-bytes-size in
+    let size = c.word_bytes-size in
     let p = c.in-Ok.ensures in
     let w = looked-at (Some c.in-Some.word) c.new.result.bytes l.at size.result c.args.raw.now c.new.ensures c.in-Some.ensures in
     goes_on-is c.args.self.now.spot c.args.buffer.now c.args.table.now c.args.raw.now l.self.spot l.buffer l.table l.at l.bits l.invariant c.requires.rows.0 c.requires.rows.1 l.self.turn

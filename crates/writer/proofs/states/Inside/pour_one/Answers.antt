@@ -20,10 +20,10 @@ use Rattle.writer.proofs.states.Inside.pour_one.Goals as goal
 false_true : ◌≡◌ {A = Bool} false true → ⊥
 false_true e = let z : ◌≡◌ {A = ℕ} 0 1 = ap {B = ℕ} (λ t. cond t 1 0) e in omega arith
 
-pub returns-in-default : goal.returns-in-default
-returns-in-default c =
+pub returns-in_default : goal.returns-in_default
+returns-in_default c =
     let (kept, d) = c.requires.rows in
-    absurd (false_true (sym c.in-default.ensures ∙ first-ruled kept c.args.table.now c.requires.lengths.1.0 d))
+    absurd (false_true (sym c.in_default.ensures ∙ first-ruled kept c.args.table.now c.requires.lengths.1.0 d))
 
 over : (n m : ℕ) → n < m → ltb n m ≡ true
 over n m h = grind (arith, nat_tests)
@@ -69,54 +69,54 @@ leaves s b t raw n r h size repeats row es er ew =
       table = ap (λ z. set z 0 row) h.table ∙ ap (λ z. z ∷ []) ew ∙ sym (ap (λ (p : Putting). p.table) h.puts);
     }
 
-pub overflow-cast-words : goal.overflow-cast-words
-overflow-cast-words c =
+pub overflow_cast-words : goal.overflow_cast-words
+overflow_cast-words c =
     let s : Spot = c.args.self.now.spot in
     let b : List ℕ = c.args.buffer.now in
     let t : List Channel = c.args.table.now in
     let raw : List ℕ = c.args.raw.now in
     let n : ℕ = c.smaller-count.result in
-    let r : Stream = told c.put-stream-streamed.result c.put-stream-streamed.new.buffer in
-    let h = streams s b t raw c.in-Some.coder c.word-bytes-size.result n c.memory.result r c.requires.first.0 c.requires.first.1.0 c.requires.first.1.1 c.requires.lengths.1.1 c.requires.lengths.0 c.requires.lengths.1.0
-    c.args.self.now.limit c.args.self.now.place (omega (arith, c.args.self.now.raw)) c.in-Some.ensures c.word-bytes-size.ensures.bytes c.smaller-count.ensures c.memory.ensures c.put-stream-streamed.ensures in
+    let r : Stream = told c.put_stream-streamed.result c.put_stream-streamed.new.buffer in
+    let h = streams s b t raw c.in-Some.coder c.word_bytes-size.result n c.memory.result r c.requires.first.0 c.requires.first.1.0 c.requires.first.1.1 c.requires.lengths.1.1 c.requires.lengths.0 c.requires.lengths.1.0
+    c.args.self.now.limit c.args.self.now.place (omega (arith, c.args.self.now.raw)) c.in-Some.ensures c.word_bytes-size.ensures.bytes c.smaller-count.ensures c.memory.ensures c.put_stream-streamed.ensures in
     record { fits = omega (arith, h.words, few (row_bytes (get_or t 0 no_row)) r.words s.edge.raw h.some h.room) }
 
-pub overflow-mul-self : goal.overflow-mul-self
-overflow-mul-self c =
+pub overflow_mul-self : goal.overflow_mul-self
+overflow_mul-self c =
     let s : Spot = c.args.self.now.spot in
     let b : List ℕ = c.args.buffer.now in
     let t : List Channel = c.args.table.now in
     let raw : List ℕ = c.args.raw.now in
     let n : ℕ = c.smaller-count.result in
-    let r : Stream = told c.put-stream-streamed.result c.put-stream-streamed.new.buffer in
-    let h = streams s b t raw c.in-Some.coder c.word-bytes-size.result n c.memory.result r c.requires.first.0 c.requires.first.1.0 c.requires.first.1.1 c.requires.lengths.1.1 c.requires.lengths.0 c.requires.lengths.1.0
-    c.args.self.now.limit c.args.self.now.place (omega (arith, c.args.self.now.raw)) c.in-Some.ensures c.word-bytes-size.ensures.bytes c.smaller-count.ensures c.memory.ensures c.put-stream-streamed.ensures in
-    let size_is = c.word-bytes-size.ensures.bytes in
-    record { fits = bound c.word-bytes-size.result (row_bytes (get_or t 0 no_row)) r.words s.edge.raw size_is h.room }
+    let r : Stream = told c.put_stream-streamed.result c.put_stream-streamed.new.buffer in
+    let h = streams s b t raw c.in-Some.coder c.word_bytes-size.result n c.memory.result r c.requires.first.0 c.requires.first.1.0 c.requires.first.1.1 c.requires.lengths.1.1 c.requires.lengths.0 c.requires.lengths.1.0
+    c.args.self.now.limit c.args.self.now.place (omega (arith, c.args.self.now.raw)) c.in-Some.ensures c.word_bytes-size.ensures.bytes c.smaller-count.ensures c.memory.ensures c.put_stream-streamed.ensures in
+    let size_is = c.word_bytes-size.ensures.bytes in
+    record { fits = bound c.word_bytes-size.result (row_bytes (get_or t 0 no_row)) r.words s.edge.raw size_is h.room }
 
-pub overflow-sub-result : goal.overflow-sub-result
-overflow-sub-result c =
+pub overflow_sub-result : goal.overflow_sub-result
+overflow_sub-result c =
     let s : Spot = c.args.self.now.spot in
     let b : List ℕ = c.args.buffer.now in
     let t : List Channel = c.args.table.now in
     let raw : List ℕ = c.args.raw.now in
     let n : ℕ = c.smaller-count.result in
-    let r : Stream = told c.put-stream-streamed.result c.put-stream-streamed.new.buffer in
-    let h = streams s b t raw c.in-Some.coder c.word-bytes-size.result n c.memory.result r c.requires.first.0 c.requires.first.1.0 c.requires.first.1.1 c.requires.lengths.1.1 c.requires.lengths.0 c.requires.lengths.1.0
-    c.args.self.now.limit c.args.self.now.place (omega (arith, c.args.self.now.raw)) c.in-Some.ensures c.word-bytes-size.ensures.bytes c.smaller-count.ensures c.memory.ensures c.put-stream-streamed.ensures in
+    let r : Stream = told c.put_stream-streamed.result c.put_stream-streamed.new.buffer in
+    let h = streams s b t raw c.in-Some.coder c.word_bytes-size.result n c.memory.result r c.requires.first.0 c.requires.first.1.0 c.requires.first.1.1 c.requires.lengths.1.1 c.requires.lengths.0 c.requires.lengths.1.0
+    c.args.self.now.limit c.args.self.now.place (omega (arith, c.args.self.now.raw)) c.in-Some.ensures c.word_bytes-size.ensures.bytes c.smaller-count.ensures c.memory.ensures c.put_stream-streamed.ensures in
     omega (arith, h.from, c.bits.ensures, c.bits-2.ensures)
 
-pub invariant-of-self : goal.invariant-of-self
-invariant-of-self c =
+pub invariant_of-self : goal.invariant_of-self
+invariant_of-self c =
     let s : Spot = c.args.self.now.spot in
     let b : List ℕ = c.args.buffer.now in
     let t : List Channel = c.args.table.now in
     let raw : List ℕ = c.args.raw.now in
     let n : ℕ = c.smaller-count.result in
-    let r : Stream = told c.put-stream-streamed.result c.put-stream-streamed.new.buffer in
-    let h = streams s b t raw c.in-Some.coder c.word-bytes-size.result n c.memory.result r c.requires.first.0 c.requires.first.1.0 c.requires.first.1.1 c.requires.lengths.1.1 c.requires.lengths.0 c.requires.lengths.1.0
-    c.args.self.now.limit c.args.self.now.place (omega (arith, c.args.self.now.raw)) c.in-Some.ensures c.word-bytes-size.ensures.bytes c.smaller-count.ensures c.memory.ensures c.put-stream-streamed.ensures in
-    behind_stream c.args.self.now b t raw n r h c.requires.lengths.0 c.word-bytes-size.result c.repeats.result c.word-bytes-size.ensures.bytes c.repeats.ensures (omega (arith, c.repeats.type-inv))
+    let r : Stream = told c.put_stream-streamed.result c.put_stream-streamed.new.buffer in
+    let h = streams s b t raw c.in-Some.coder c.word_bytes-size.result n c.memory.result r c.requires.first.0 c.requires.first.1.0 c.requires.first.1.1 c.requires.lengths.1.1 c.requires.lengths.0 c.requires.lengths.1.0
+    c.args.self.now.limit c.args.self.now.place (omega (arith, c.args.self.now.raw)) c.in-Some.ensures c.word_bytes-size.ensures.bytes c.smaller-count.ensures c.memory.ensures c.put_stream-streamed.ensures in
+    behind_stream c.args.self.now b t raw n r h c.requires.lengths.0 c.word_bytes-size.result c.repeats.result c.word_bytes-size.ensures.bytes c.repeats.ensures (omega (arith, c.repeats.type_inv))
 
 pub returns-in-Some-fault : goal.returns-in-Some-fault
 returns-in-Some-fault c =
@@ -125,10 +125,10 @@ returns-in-Some-fault c =
     let t : List Channel = c.args.table.now in
     let raw : List ℕ = c.args.raw.now in
     let n : ℕ = c.smaller-count.result in
-    let r : Stream = told c.put-stream-streamed.result c.put-stream-streamed.new.buffer in
-    let h = streams s b t raw c.in-Some.coder c.word-bytes-size.result n c.memory.result r c.requires.first.0 c.requires.first.1.0 c.requires.first.1.1 c.requires.lengths.1.1 c.requires.lengths.0 c.requires.lengths.1.0
-    c.args.self.now.limit c.args.self.now.place (omega (arith, c.args.self.now.raw)) c.in-Some.ensures c.word-bytes-size.ensures.bytes c.smaller-count.ensures c.memory.ensures c.put-stream-streamed.ensures in
-    let v = leaves s b t raw n r h c.word-bytes-size.result c.repeats.result c.remembering.result c.word-bytes-size.ensures.bytes c.repeats.ensures c.remembering.ensures in
+    let r : Stream = told c.put_stream-streamed.result c.put_stream-streamed.new.buffer in
+    let h = streams s b t raw c.in-Some.coder c.word_bytes-size.result n c.memory.result r c.requires.first.0 c.requires.first.1.0 c.requires.first.1.1 c.requires.lengths.1.1 c.requires.lengths.0 c.requires.lengths.1.0
+    c.args.self.now.limit c.args.self.now.place (omega (arith, c.args.self.now.raw)) c.in-Some.ensures c.word_bytes-size.ensures.bytes c.smaller-count.ensures c.memory.ensures c.put_stream-streamed.ensures in
+    let v = leaves s b t raw n r h c.word_bytes-size.result c.repeats.result c.remembering.result c.word_bytes-size.ensures.bytes c.repeats.ensures c.remembering.ensures in
     record {
       answer = sym (told-by s b t raw n r h (Some (number_of c.in-Some-fault.kind)) (ltb n (length raw / row_bytes (get_or t 0 no_row))) (not (eqb (length raw % row_bytes (get_or t 0 no_row)) 0)) (ap (option_map number_of) c.in-Some-fault.is) refl refl);
       state = v.state;
@@ -143,43 +143,43 @@ returns-then-count-all c =
     let t : List Channel = c.args.table.now in
     let raw : List ℕ = c.args.raw.now in
     let n : ℕ = c.smaller-count.result in
-    let r : Stream = told c.put-stream-streamed.result c.put-stream-streamed.new.buffer in
-    let h = streams s b t raw c.in-Some.coder c.word-bytes-size.result n c.memory.result r c.requires.first.0 c.requires.first.1.0 c.requires.first.1.1 c.requires.lengths.1.1 c.requires.lengths.0 c.requires.lengths.1.0
-    c.args.self.now.limit c.args.self.now.place (omega (arith, c.args.self.now.raw)) c.in-Some.ensures c.word-bytes-size.ensures.bytes c.smaller-count.ensures c.memory.ensures c.put-stream-streamed.ensures in
-    let v = leaves s b t raw n r h c.word-bytes-size.result c.repeats.result c.remembering.result c.word-bytes-size.ensures.bytes c.repeats.ensures c.remembering.ensures in
+    let r : Stream = told c.put_stream-streamed.result c.put_stream-streamed.new.buffer in
+    let h = streams s b t raw c.in-Some.coder c.word_bytes-size.result n c.memory.result r c.requires.first.0 c.requires.first.1.0 c.requires.first.1.1 c.requires.lengths.1.1 c.requires.lengths.0 c.requires.lengths.1.0
+    c.args.self.now.limit c.args.self.now.place (omega (arith, c.args.self.now.raw)) c.in-Some.ensures c.word_bytes-size.ensures.bytes c.smaller-count.ensures c.memory.ensures c.put_stream-streamed.ensures in
+    let v = leaves s b t raw n r h c.word_bytes-size.result c.repeats.result c.remembering.result c.word_bytes-size.ensures.bytes c.repeats.ensures c.remembering.ensures in
     let all : ℕ = length raw / row_bytes (get_or t 0 no_row) in
     let rest : ℕ = length raw % row_bytes (get_or t 0 no_row) in
-    let size_is : c.word-bytes-size.result ≡ row_bytes (get_or t 0 no_row) = c.word-bytes-size.ensures.bytes in
-    let all-is : length raw / c.word-bytes-size.result ≡ all = ap (λ z. length raw / z) size_is in
-    let rest-is : length raw % c.word-bytes-size.result ≡ rest = ap (λ z. length raw % z) size_is in
+    let size_is : c.word_bytes-size.result ≡ row_bytes (get_or t 0 no_row) = c.word_bytes-size.ensures.bytes in
+    let all-is : length raw / c.word_bytes-size.result ≡ all = ap (λ z. length raw / z) size_is in
+    let rest-is : length raw % c.word_bytes-size.result ≡ rest = ap (λ z. length raw % z) size_is in
     let more : ltb n all ≡ true = over n all (omega (arith, c.if-count-all.true, all-is)) in
     record {
-      answer = sym (told-by s b t raw n r h None true (not (eqb rest 0)) (ap (option_map number_of) c.in-default-fault.is) more refl);
+      answer = sym (told-by s b t raw n r h None true (not (eqb rest 0)) (ap (option_map number_of) c.in_default-fault.is) more refl);
       state = v.state;
       bytes = v.bytes;
       table = v.table;
     }
 
-pub returns-then-raw-size-ne0 : goal.returns-then-raw-size-ne0
-returns-then-raw-size-ne0 c =
+pub returns-then-raw_size-ne0 : goal.returns-then-raw_size-ne0
+returns-then-raw_size-ne0 c =
     let s : Spot = c.args.self.now.spot in
     let b : List ℕ = c.args.buffer.now in
     let t : List Channel = c.args.table.now in
     let raw : List ℕ = c.args.raw.now in
     let n : ℕ = c.smaller-count.result in
-    let r : Stream = told c.put-stream-streamed.result c.put-stream-streamed.new.buffer in
-    let h = streams s b t raw c.in-Some.coder c.word-bytes-size.result n c.memory.result r c.requires.first.0 c.requires.first.1.0 c.requires.first.1.1 c.requires.lengths.1.1 c.requires.lengths.0 c.requires.lengths.1.0
-    c.args.self.now.limit c.args.self.now.place (omega (arith, c.args.self.now.raw)) c.in-Some.ensures c.word-bytes-size.ensures.bytes c.smaller-count.ensures c.memory.ensures c.put-stream-streamed.ensures in
-    let v = leaves s b t raw n r h c.word-bytes-size.result c.repeats.result c.remembering.result c.word-bytes-size.ensures.bytes c.repeats.ensures c.remembering.ensures in
+    let r : Stream = told c.put_stream-streamed.result c.put_stream-streamed.new.buffer in
+    let h = streams s b t raw c.in-Some.coder c.word_bytes-size.result n c.memory.result r c.requires.first.0 c.requires.first.1.0 c.requires.first.1.1 c.requires.lengths.1.1 c.requires.lengths.0 c.requires.lengths.1.0
+    c.args.self.now.limit c.args.self.now.place (omega (arith, c.args.self.now.raw)) c.in-Some.ensures c.word_bytes-size.ensures.bytes c.smaller-count.ensures c.memory.ensures c.put_stream-streamed.ensures in
+    let v = leaves s b t raw n r h c.word_bytes-size.result c.repeats.result c.remembering.result c.word_bytes-size.ensures.bytes c.repeats.ensures c.remembering.ensures in
     let all : ℕ = length raw / row_bytes (get_or t 0 no_row) in
     let rest : ℕ = length raw % row_bytes (get_or t 0 no_row) in
-    let size_is : c.word-bytes-size.result ≡ row_bytes (get_or t 0 no_row) = c.word-bytes-size.ensures.bytes in
-    let all-is : length raw / c.word-bytes-size.result ≡ all = ap (λ z. length raw / z) size_is in
-    let rest-is : length raw % c.word-bytes-size.result ≡ rest = ap (λ z. length raw % z) size_is in
+    let size_is : c.word_bytes-size.result ≡ row_bytes (get_or t 0 no_row) = c.word_bytes-size.ensures.bytes in
+    let all-is : length raw / c.word_bytes-size.result ≡ all = ap (λ z. length raw / z) size_is in
+    let rest-is : length raw % c.word_bytes-size.result ≡ rest = ap (λ z. length raw % z) size_is in
     let more : ltb n all ≡ false = within n all (omega (arith, c.if-count-all.false, all-is)) in
-    let cut : not (eqb rest 0) ≡ true = ap not (not-zero rest (λ e. c.if-raw-size-ne0.true (rest-is ∙ e))) in
+    let cut : not (eqb rest 0) ≡ true = ap not (not-zero rest (λ e. c.if-raw_size-ne0.true (rest-is ∙ e))) in
     record {
-      answer = sym (told-by s b t raw n r h None false true (ap (option_map number_of) c.in-default-fault.is) more cut);
+      answer = sym (told-by s b t raw n r h None false true (ap (option_map number_of) c.in_default-fault.is) more cut);
       state = v.state;
       bytes = v.bytes;
       table = v.table;
@@ -192,20 +192,20 @@ returns c =
     let t : List Channel = c.args.table.now in
     let raw : List ℕ = c.args.raw.now in
     let n : ℕ = c.smaller-count.result in
-    let r : Stream = told c.put-stream-streamed.result c.put-stream-streamed.new.buffer in
-    let h = streams s b t raw c.in-Some.coder c.word-bytes-size.result n c.memory.result r c.requires.first.0 c.requires.first.1.0 c.requires.first.1.1 c.requires.lengths.1.1 c.requires.lengths.0 c.requires.lengths.1.0
-    c.args.self.now.limit c.args.self.now.place (omega (arith, c.args.self.now.raw)) c.in-Some.ensures c.word-bytes-size.ensures.bytes c.smaller-count.ensures c.memory.ensures c.put-stream-streamed.ensures in
-    let v = leaves s b t raw n r h c.word-bytes-size.result c.repeats.result c.remembering.result c.word-bytes-size.ensures.bytes c.repeats.ensures c.remembering.ensures in
+    let r : Stream = told c.put_stream-streamed.result c.put_stream-streamed.new.buffer in
+    let h = streams s b t raw c.in-Some.coder c.word_bytes-size.result n c.memory.result r c.requires.first.0 c.requires.first.1.0 c.requires.first.1.1 c.requires.lengths.1.1 c.requires.lengths.0 c.requires.lengths.1.0
+    c.args.self.now.limit c.args.self.now.place (omega (arith, c.args.self.now.raw)) c.in-Some.ensures c.word_bytes-size.ensures.bytes c.smaller-count.ensures c.memory.ensures c.put_stream-streamed.ensures in
+    let v = leaves s b t raw n r h c.word_bytes-size.result c.repeats.result c.remembering.result c.word_bytes-size.ensures.bytes c.repeats.ensures c.remembering.ensures in
     let all : ℕ = length raw / row_bytes (get_or t 0 no_row) in
     let rest : ℕ = length raw % row_bytes (get_or t 0 no_row) in
-    let size_is : c.word-bytes-size.result ≡ row_bytes (get_or t 0 no_row) = c.word-bytes-size.ensures.bytes in
-    let all-is : length raw / c.word-bytes-size.result ≡ all = ap (λ z. length raw / z) size_is in
-    let rest-is : length raw % c.word-bytes-size.result ≡ rest = ap (λ z. length raw % z) size_is in
+    let size_is : c.word_bytes-size.result ≡ row_bytes (get_or t 0 no_row) = c.word_bytes-size.ensures.bytes in
+    let all-is : length raw / c.word_bytes-size.result ≡ all = ap (λ z. length raw / z) size_is in
+    let rest-is : length raw % c.word_bytes-size.result ≡ rest = ap (λ z. length raw % z) size_is in
     let more : ltb n all ≡ false = within n all (omega (arith, c.if-count-all.false, all-is)) in
-    let cut : not (eqb rest 0) ≡ false = ap (λ z. not (eqb z 0)) (sym rest-is ∙ c.if-raw-size-ne0.false) in
+    let cut : not (eqb rest 0) ≡ false = ap (λ z. not (eqb z 0)) (sym rest-is ∙ c.if-raw_size-ne0.false) in
     let d : c.bits.result - c.bits-2.result ≡ r.at - s.at.bits = ap (λ z. z - c.bits-2.result) c.bits.ensures ∙ ap (λ z. r.at - z) c.bits-2.ensures in
     record {
-      answer = ap Ok d ∙ sym (told-by s b t raw n r h None false false (ap (option_map number_of) c.in-default-fault.is) more cut);
+      answer = ap Ok d ∙ sym (told-by s b t raw n r h None false false (ap (option_map number_of) c.in_default-fault.is) more cut);
       state = v.state;
       bytes = v.bytes;
       table = v.table;

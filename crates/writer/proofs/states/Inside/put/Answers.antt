@@ -32,7 +32,7 @@ returns-in-Err c =
     let C : Coding (ℕ × Unit {0}) = coder_coding c.in-Some.coder in
     let a : fault n p ≡ kept_put (laid s.at.bits (length b) (coded r w)) = c.in-Err.ensures.answer ∙ by_row (λ f. kept_put (laid s.at.bits (length b) f)) C r c.memory.result w k.1 c.memory.ensures in
     let f = form_refused s.at.bits b n p (coded r w) a in
-    let d : putting s b t w ≡ Some (n, p) = form-decides s (length b) (length t) r (coded r w) (sym c.if-is-strange.ensures) k.0 (omega (arith, c.word-bytes.ensures.bytes, c.if-spot-word-bytes-gt-MOST-RAW.false)) ∙ f.fault in
+    let d : putting s b t w ≡ Some (n, p) = form-decides s (length b) (length t) r (coded r w) (sym c.if-is_strange.ensures) k.0 (omega (arith, c.word_bytes.ensures.bytes, c.if-spot-word_bytes-gt-MOST_RAW.false)) ∙ f.fault in
     let y : c.put.new.buffer ≡ b = c.in-Err.ensures.bytes ∙ by_row (laid_bytes s.at.bits b) C r c.memory.result w k.1 c.memory.ensures ∙ f.bytes in
     record {
       answer = sym (ap (λ o. answer {A = ℕ} {E = Trouble} o (length (form_in (coded r w))) (λ f. f)) d);
@@ -41,8 +41,8 @@ returns-in-Err c =
       table = sym (ap (λ o. unless o t (set t s.channel (remembering r (memory_of (coded r w))))) d);
     }
 
-pub invariant-of-self : goal.invariant-of-self
-invariant-of-self c =
+pub invariant_of-self : goal.invariant_of-self
+invariant_of-self c =
     let s : Spot = c.args.self.now.spot in
     let b : List ℕ = c.args.buffer.now in
     let t : List Channel = c.args.table.now in
@@ -53,7 +53,7 @@ invariant-of-self c =
     let C : Coding (ℕ × Unit {0}) = coder_coding c.in-Some.coder in
     let a : gives (n, m) ≡ kept_put (laid s.at.bits (length b) (coded r c.args.word)) = c.in-Ok.ensures.answer ∙ by_row (λ f. kept_put (laid s.at.bits (length b) f)) C r c.memory.result c.args.word k.1 c.memory.ensures in
     let f = form_put s.at.bits b n m (coded r c.args.word) a in
-    behind-word c.args.self.now r n c.moved-on-self.result c.moved-on-self.ensures.value (length b) (length t) (sym c.if-is-strange.ensures) f.room (omega (arith, c.word-bytes.ensures.bytes, c.if-spot-word-bytes-gt-MOST-RAW.false)) c.moved-on-self.ensures.turn c.moved-on-self.ensures.given
+    behind-word c.args.self.now r n c.moved_on-self.result c.moved_on-self.ensures.value (length b) (length t) (sym c.if-is_strange.ensures) f.room (omega (arith, c.word_bytes.ensures.bytes, c.if-spot-word_bytes-gt-MOST_RAW.false)) c.moved_on-self.ensures.turn c.moved_on-self.ensures.given
 
 pub returns : goal.returns
 returns c =
@@ -68,12 +68,12 @@ returns c =
     let C : Coding (ℕ × Unit {0}) = coder_coding c.in-Some.coder in
     let a : gives (n, m) ≡ kept_put (laid s.at.bits (length b) (coded r w)) = c.in-Ok.ensures.answer ∙ by_row (λ f. kept_put (laid s.at.bits (length b) f)) C r c.memory.result w k.1 c.memory.ensures in
     let f = form_put s.at.bits b n m (coded r w) a in
-    let d : putting s b t w ≡ None = form-decides s (length b) (length t) r (coded r w) (sym c.if-is-strange.ensures) k.0 (omega (arith, c.word-bytes.ensures.bytes, c.if-spot-word-bytes-gt-MOST-RAW.false)) ∙ f.fault in
+    let d : putting s b t w ≡ None = form-decides s (length b) (length t) r (coded r w) (sym c.if-is_strange.ensures) k.0 (omega (arith, c.word_bytes.ensures.bytes, c.if-spot-word_bytes-gt-MOST_RAW.false)) ∙ f.fault in
     let y : c.put.new.buffer ≡ put_bits b s.at.bits (form_in (coded r w)) = c.in-Ok.ensures.bytes ∙ by_row (laid_bytes s.at.bits b) C r c.memory.result w k.1 c.memory.ensures ∙ f.bytes in
     let v : c.remembering.result ≡ remembering r (memory_of (coded r w)) = c.remembering.ensures ∙ ap (remembering r) f.memory in
     record {
       answer = ap Ok f.length ∙ sym (ap (λ o. answer {A = ℕ} {E = Trouble} o (length (form_in (coded r w))) (λ f. f)) d);
-      state = c.moved-on-self.ensures.value ∙ ap (moved_on s r) f.length ∙ sym (ap (λ o. unless o s (moved_on s r (length (form_in (coded r w))))) d);
+      state = c.moved_on-self.ensures.value ∙ ap (moved_on s r) f.length ∙ sym (ap (λ o. unless o s (moved_on s r (length (form_in (coded r w))))) d);
       bytes = y ∙ sym (ap (λ o. unless o b (put_bits b s.at.bits (form_in (coded r w)))) d);
       table = ap (set t s.channel) v ∙ sym (ap (λ o. unless o t (set t s.channel (remembering r (memory_of (coded r w))))) d);
     }

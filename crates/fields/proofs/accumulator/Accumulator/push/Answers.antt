@@ -21,7 +21,7 @@ invariant_of-self c =
     let v : ℕ = c.args.value in
     let n : ℕ = c.args.count in
     let e : c.low-new.result ≡ v % 2 ^ n = c.low-new.ensures in
-    (omega arith, (rw e (small-lt w have v n c.args.self.now.clean c.args.self.now.few (omega arith) (omega arith)), tt))
+    record { few = omega arith; clean = rw e (small-lt w have v n c.args.self.now.clean c.args.self.now.few (omega arith) (omega arith)) }
 
 pub returns-then-have-lt64 : goal.returns-then-have-lt64
 returns-then-have-lt64 c =
@@ -52,7 +52,7 @@ invariant_of-self-2 c =
       | then-left-eq0 x ↦ rw x.rest-is (none_lt (have + n - 64))
       | else-left-eq0 x ↦ rw (x.rest-is, e, i) (full-rest-lt w have v n c.args.self.now.clean c.args.self.now.few (omega arith) (omega arith))
     ] in
-    (omega arith, (lt, tt))
+    record { few = omega arith; clean = lt }
 
 pub returns : goal.returns
 returns c =

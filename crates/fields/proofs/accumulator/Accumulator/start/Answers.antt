@@ -18,6 +18,6 @@ returns c =
     let e = c.bits-at.ensures in
     let s : put_bits f (8 * (at / 8)) (bits (at % 8) c.if-have-eq0.word) ≡ f = elim c.if-have-eq0.branch [
       | then-have-eq0 x ↦ no_bits f (8 * (at / 8)) (at % 8) c.if-have-eq0.word x.if-have-eq0.true c.are_bytes.ensures
-      | else-have-eq0 x ↦ put_low f (at / 8) (at % 8) c.if-have-eq0.word (omega arith) (omega arith) c.are_bytes.ensures (x.word-is ∙ x.low_word.ensures)
+      | else-have-eq0 x ↦ put_low f (at / 8) (at % 8) c.if-have-eq0.word (omega arith) (omega arith) c.are_bytes.ensures (x.word-is ∙ x.low-word.ensures)
     ] in
     (s, omega arith)

@@ -33,7 +33,9 @@ fn gap_at(at: usize) -> u32
 
 // Writes a number and zeros up to a whole byte, and answers the byte behind.
 fn put_padded(buffer: &mut [u8], at: usize, value: u64, count: u32) -> Option<BytePlace>
-    requires* { ⌜ count ≤ 56 ⌝ ∗ (⌜ value < 2 ^ count ⌝ ∗ ⌜ at ≤ 134217735 ⌝) }
+    requires few { count ≤ 56 }
+    requires small { value < 2 ^ count }
+    requires near { at ≤ 134217735 }
     ensures place { option_map (λ (p : BytePlace). p.bytes) result ≡ (if nat_le (at + length (padded_bits at value count)) (8 * length buffer.old) then Some ((at + length (padded_bits at value count)) / 8) else None) }
     ensures bytes { buffer.new ≡ (if nat_le (at + length (padded_bits at value count)) (8 * length buffer.old) then put_bits buffer.old at (padded_bits at value count) else buffer.old) }
 {
@@ -59,7 +61,10 @@ pub fn put_more(buffer: &mut [u8], at: BitPlace) -> Option<BytePlace>
 
 // Writes the tag, the number of leftovers and the leftovers.
 fn put_leftovers(buffer: &mut [u8], at: usize, leftovers: &[u8]) -> Option<BytePlace>
-    requires* { ⌜ 1 ≤ length leftovers.now ⌝ ∗ (⌜ length leftovers.now ≤ 7 ⌝ ∗ (⌜ at ≤ 134217728 ⌝ ∗ ⌜ length buffer.old ≤ 16777216 ⌝)) }
+    requires some { 1 ≤ length leftovers.now }
+    requires few { length leftovers.now ≤ 7 }
+    requires near { at ≤ 134217728 }
+    requires room { length buffer.old ≤ 16777216 }
     ensures place { option_map (λ (p : BytePlace). p.bytes) result ≡ closing_end at (ended leftovers.now) (length buffer.old) }
     ensures bytes { buffer.new ≡ closing_bytes at (ended leftovers.now) buffer.old }
 {

@@ -9,16 +9,16 @@ use Rattle.writer.specs.declared.states.Between.{Between}
 use Rattle.writer.specs.declared.states.Inside.{Inside}
 use Rattle.writer.proofs.Putting.{moved, same_length}
 
--- between sections
-abbrev pub EdgeBounds : Edge → Type 0
-EdgeBounds e =
-    (e.len ≤ 16777216) × ((e.at.bytes ≤ e.len) × ((cond e.flags.sized 11 7 ≤ e.at.bytes) × ((e.sections ≤ 63) × ((e.raw ≤ 16777216) × Unit {0}))))
-
 -- inside a section
-abbrev pub SpotBounds : Spot → Type 0
-SpotBounds s =
-    (s.edge.len ≤ 16777216) × ((s.at.bits ≤ 8 * s.edge.len) × ((cond s.edge.flags.sized 11 7 ≤ s.edge.at.bytes) × ((8 * s.edge.at.bytes + cond s.edge.flags.pointed 64 32 ≤ s.at.bits) ×
-    ((s.edge.sections ≤ 63) × ((s.edge.raw + s.raw ≤ 16777216) × ((s.channel < s.rows) × ((s.given < 4294967295) × Unit {0})))))))
+pub record SpotBounds (s : Spot) : Type 0 where
+  pub limit : s.edge.len ≤ 16777216
+  pub place : s.at.bits ≤ 8 * s.edge.len
+  pub head : cond s.edge.flags.sized 11 7 ≤ s.edge.at.bytes
+  pub fields : 8 * s.edge.at.bytes + cond s.edge.flags.pointed 64 32 ≤ s.at.bits
+  pub sections : s.edge.sections ≤ 63
+  pub raw : s.edge.raw + s.raw ≤ 16777216
+  pub turn : s.channel < s.rows
+  pub given : s.given < 4294967295
 
 -- behind a word
 pub behind-word : (w : Inside) (c : Channel) (n : ℕ) (r : Spot) → r ≡ moved_on w.spot c n → (len rows : ℕ) → strange w.spot len rows ≡ false → w.spot.at.bits + n ≤ 8 * len → w.spot.edge.raw + w.spot.raw + row_bytes c ≤ most_bytes →
@@ -34,22 +34,14 @@ behind-word w c n r e len rows x h l t g =
     let i-raw = ap (λ (z : Edge). z.raw) i in
     let i-sections = ap (λ (z : Edge). z.sections) i in
     let i-sized = ap {B = ℕ} (λ (z : Edge). cond z.flags.sized 11 7) i in
-    let i-pointed = ap {B = ℕ} (λ (z : Edge). cond z.flags.pointed 64 32) i in (
-      omega (arith, i-len, w.limit),
-      (
-        omega (arith, i-len, at, len_is, h),
-        (
-          omega (arith, i-sized, i-at, w.head),
-          (
-            omega (arith, i-pointed, i-at, at, w.fields),
-            (
-              omega (arith, i-sections, w.sections),
-              (
-                omega (arith, i-raw, raw, l),
-                (t, (g, tt)),
-              ),
-            ),
-          ),
-        ),
-      ),
-    )
+    let i-pointed = ap {B = ℕ} (λ (z : Edge). cond z.flags.pointed 64 32) i in
+    record {
+      limit = omega (arith, i-len, w.limit);
+      place = omega (arith, i-len, at, len_is, h);
+      head = omega (arith, i-sized, i-at, w.head);
+      fields = omega (arith, i-pointed, i-at, at, w.fields);
+      sections = omega (arith, i-sections, w.sections);
+      raw = omega (arith, i-raw, raw, l);
+      turn = t;
+      given = g;
+    }

@@ -16,7 +16,7 @@ returns-then-end-gap_at c =
     let b : List ℕ = c.args.buffer.now in
     let at : ℕ = c.args.at in
     let ls : List ℕ = c.args.leftovers.now in
-    let l = left-length at ls c.requires.0 in
+    let l = left-length at ls c.requires.some in
     let t = fits-long at (length b) (ended ls) (omega (arith, l, c.gap_at.ensures.gap, c.if-end-gap_at.true)) in
     let (p, w) = refused at b (ended ls) t in
     record { place = p; bytes = w }
@@ -38,7 +38,7 @@ put_padded-requires c =
     let ls : List ℕ = c.args.leftovers.now in
     let v = taken c.new.result.bits (length ls) ls c.in_ok-bytes.bytes c.new.ensures c.in_ok-bytes.ensures in
     let l = field_lt ls 0 (8 * length ls) in
-    (omega (arith, c.requires.1.0), (rw v l, omega (arith, c.requires.1.1.0)))
+    record { few = omega (arith, c.requires.few); small = rw v l; near = omega (arith, c.requires.near) }
 
 pub returns : goal.returns
 returns c =
@@ -48,12 +48,12 @@ returns c =
     let n : ℕ = length ls in
     let g : List ℕ = c.put_field.new.buffer in
     let k : length g ≡ length b = c.put_field.auto.buffer in
-    let l = left-length at ls c.requires.0 in
+    let l = left-length at ls c.requires.some in
     let h : at + length (closing_bits at (ended ls)) ≤ 8 * length b = omega (arith, l, c.gap_at.ensures.gap, c.if-end-gap_at.false) in
     let v = taken c.new.result.bits (length ls) ls c.in_ok-bytes.bytes c.new.ensures c.in_ok-bytes.ensures in
     let w : g ≡ put_bits b at (bits 7 (14 + 16 * n)) = field_put b g at c.new-2.result.bits 7 (14 + 16 * n) (omega arith) (omega (arith, h, l)) c.new-2.ensures c.put_field.ensures.bytes in
-    let (p, x) = accepted at b (ended ls) c.requires.1.1.1 c.requires.1.0 h in
+    let (p, x) = accepted at b (ended ls) c.requires.room c.requires.few h in
     record {
-      place = c.put_padded.ensures.place ∙ left_end at (at + 7) c.in_ok-bytes.bytes n (length g) ls refl c.requires.0 (rw (ap (λ z. 8 * z) k) h) refl v ∙ p;
-      bytes = left-put b g c.put_padded.new.buffer at at (at + 7) c.in_ok-bytes.bytes n ls refl c.requires.0 h refl refl v k w c.put_padded.ensures.bytes ∙ x;
+      place = c.put_padded.ensures.place ∙ left_end at (at + 7) c.in_ok-bytes.bytes n (length g) ls refl c.requires.some (rw (ap (λ z. 8 * z) k) h) refl v ∙ p;
+      bytes = left-put b g c.put_padded.new.buffer at at (at + 7) c.in_ok-bytes.bytes n ls refl c.requires.some h refl refl v k w c.put_padded.ensures.bytes ∙ x;
     }

@@ -13,11 +13,11 @@ returns-then-not-put_field c =
     let n : ℕ = c.args.count in
     let w : ℕ = n + c.gap_at.result in
     let e : w ≡ n + gap (at + n) = ap (λ z. n + z) c.gap_at.ensures.gap in
-    let h : w ≤ 64 = omega (arith, c.gap_at.ensures.few, c.requires.0) in
+    let h : w ≤ 64 = omega (arith, c.gap_at.ensures.few, c.requires.few) in
     let t : leb (at + length (padded_bits at v n)) (8 * length f) ≡ false = sym (padded-fits at v n w (length f) e h) ∙ ap (λ z. is_field z w (length f)) (sym c.new.ensures) ∙ sym c.put_field.ensures.put ∙ c.if-not-put_field.true in
     record {
       place = sym (ap (λ z. cond {A = Option ℕ} z (Some ((at + length (padded_bits at v n)) / 8)) None) t);
-      bytes = padded-put f c.put_field.new.buffer at c.new.result.bits v n w e h c.requires.1.0 c.new.ensures c.put_field.ensures.bytes;
+      bytes = padded-put f c.put_field.new.buffer at c.new.result.bits v n w e h c.requires.small c.new.ensures c.put_field.ensures.bytes;
     }
 
 pub returns : goal.returns
@@ -28,10 +28,10 @@ returns c =
     let n : ℕ = c.args.count in
     let w : ℕ = n + c.gap_at.result in
     let e : w ≡ n + gap (at + n) = ap (λ z. n + z) c.gap_at.ensures.gap in
-    let h : w ≤ 64 = omega (arith, c.gap_at.ensures.few, c.requires.0) in
+    let h : w ≤ 64 = omega (arith, c.gap_at.ensures.few, c.requires.few) in
     let t : leb (at + length (padded_bits at v n)) (8 * length f) ≡ true = sym (padded-fits at v n w (length f) e h) ∙ ap (λ z. is_field z w (length f)) (sym c.new.ensures) ∙ sym c.put_field.ensures.put ∙ c.if-not-put_field.false in
     let r : c.new-2.result.bytes ≡ (at + length (padded_bits at v n)) / 8 = c.new-2.ensures ∙ ap (λ z. (at + z) / 8) (e ∙ sym (padded-length at v n)) in
     record {
       place = ap Some r ∙ sym (ap (λ z. cond {A = Option ℕ} z (Some ((at + length (padded_bits at v n)) / 8)) None) t);
-      bytes = padded-put f c.put_field.new.buffer at c.new.result.bits v n w e h c.requires.1.0 c.new.ensures c.put_field.ensures.bytes;
+      bytes = padded-put f c.put_field.new.buffer at c.new.result.bits v n w e h c.requires.small c.new.ensures c.put_field.ensures.bytes;
     }

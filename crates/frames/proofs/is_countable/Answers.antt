@@ -1,11 +1,11 @@
 use Rattle.frames.proofs.Tables.{none_uncountable, many_uncountable, some-countable}
 use Rattle.frames.proofs.is_countable.Goals as goal
-use Rattle.frames.proofs.is_countable.Goals.{then-is_empty-via-then-is_empty, then-is_empty-via-else-is-empty+then-table-gt-MOST_CHANNELS}
+use Rattle.frames.proofs.is_countable.Goals.{then-is_empty-via-then-is_empty, then-is_empty-via-else-is_empty+then-table-gt-MOST_CHANNELS}
 
 pub returns-then-is_empty : goal.returns-then-is_empty
 returns-then-is_empty c = elim c.then-is_empty.branch [
-  | then-is-empty-via-then-is-empty w ↦ none_uncountable c.args.table.now c.is_empty.result c.is_empty.ensures w.if-is_empty.true
-  | then-is-empty-via-else-is-empty+then-table-gt-MOST-CHANNELS w ↦ many_uncountable c.args.table.now w.if-table-gt-MOST_CHANNELS.true
+  | then-is_empty-via-then-is_empty w ↦ none_uncountable c.args.table.now c.is_empty.result c.is_empty.ensures w.if-is_empty.true
+  | then-is_empty-via-else-is_empty+then-table-gt-MOST_CHANNELS w ↦ many_uncountable c.args.table.now w.if-table-gt-MOST_CHANNELS.true
 ]
 
 pub returns : goal.returns

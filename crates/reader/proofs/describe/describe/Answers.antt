@@ -13,7 +13,7 @@ use Rattle.reader.proofs.Describing.{checked-short, head-again, sought-there, so
 use Rattle.reader.proofs.describe.describe.Goals as goal
 
 pub invariant_of-source : goal.invariant_of-source
-invariant_of-source c = (checked-short c.args.file.now c.in_ok-totals.totals c.in_ok-totals.ensures.answer, tt)
+invariant_of-source c = record { small = checked-short c.args.file.now c.in_ok-totals.totals c.in_ok-totals.ensures.answer }
 
 pub returns-in_err-head : goal.returns-in_err-head
 returns-in_err-head c = absurd (head-again c.args.file.now c.in_ok-totals.totals c.in_ok-totals.ensures.answer _ _ c.in_err-head.ensures.head)

@@ -38,7 +38,7 @@ returns-then-totals-out c =
     record { answer = a; bytes = b; accepted = unpacks f out _ out a b }
 
 pub invariant_of-source : goal.invariant_of-source
-invariant_of-source c = (checked-short c.args.file.now c.in_ok-totals.totals c.in_ok-totals.ensures.answer, tt)
+invariant_of-source c = record { small = checked-short c.args.file.now c.in_ok-totals.totals c.in_ok-totals.ensures.answer }
 
 pub returns-in_err-head : goal.returns-in_err-head
 returns-in_err-head c =

@@ -46,8 +46,8 @@ returns-after-channel-table c =
     let j : ℕ = c.if-channel-table.turn in
     let (b, k) : (j ≡ following (length t) i) × (j < length t) =
     elim c.if-channel-table.branch [
-      | then-channel-table v ↦ (follows (length t) i j v.if-channel-table.true v.turn_is, omega (arith, v.if-channel-table.true, v.turn_is))
-      | else-channel-table v ↦ (starts-over (length t) i j v.if-channel-table.false v.turn_is, omega (arith, v.turn_is, l))
+      | then-channel-table v ↦ (follows (length t) i j v.if-channel-table.true v.turn-is, omega (arith, v.if-channel-table.true, v.turn-is))
+      | else-channel-table v ↦ (starts-over (length t) i j v.if-channel-table.false v.turn-is, omega (arith, v.turn-is, l))
     ] in
     record {
       word = next_word t i T.given T.memories l C f c.args.at.bits c.in-Some.ensures.1 w.word w.len w.memory c.in-Ok.ensures;

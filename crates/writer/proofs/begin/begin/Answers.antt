@@ -15,7 +15,7 @@ invariant_of-result c =
     let h : List Bool = head c.args.stamp c.args.flags name extra in
     let p = placed (head_fits name extra h (length c.args.buffer.now)) c.in-Some.at.bytes (length h / 8) c.in-Some.ensures.place in
     let k = head_place c.args.stamp (marks c.args.flags) name extra (length c.args.buffer.now) c.in-Some.at.bytes p in
-    (k.limit, (k.place, (k.least, (omega arith, (omega arith, tt)))))
+    record { limit = k.limit; place = k.place; head = k.least; sections = omega arith; raw = omega arith }
 
 pub returns : goal.returns
 returns c =

@@ -20,70 +20,70 @@ returns-in_default c n d b =
     nothing-on n d b c.args.algorithm c.args.kind (bits_of c.args.self.bytes.now) c.args.at.bits c.args.last.bits
     (other-algorithm c.args.kind c.args.algorithm 1 (λ h. omega arith)) (other-algorithm c.args.kind c.args.algorithm 6 (λ h. omega arith))
 
-pub returns-in_err-pedestal : goal.returns-in_err-pedestal
-returns-in_err-pedestal c n d b =
+pub returns-in_err-pedestal-in-1 : goal.returns-in_err-pedestal-in-1
+returns-in_err-pedestal-in-1 c n d b =
     let f : File = bits_of c.args.self.bytes.now in
     let t = c.args.kind in
     let w = c.width_of-width.result in
     let a = c.args.algorithm in
     let p = c.args.at.bits in
     let l = c.args.last.bits in
-    passed (with_added n d b a t) c.from_residual.result c.in_err-pedestal.field-0.0 _ c.from_residual.ensures.1
+    passed (with_added n d b a t) c.from_residual.result c.in_err-pedestal-in-1.field-0.0 _ c.from_residual.ensures.1
     (reduced-not n d b a t f p l
     (is-algorithm w t a 1 c.width_of-width.ensures (omega (arith, c.if-width-eq0.false)) c.in-1.is)
-    (word-field w t f p l _ c.width_of-width.ensures (omega (arith, c.if-width-eq0.false)) (c.in_err-pedestal.ensures l)))
+    (word-field w t f p l _ c.width_of-width.ensures (omega (arith, c.if-width-eq0.false)) (c.in_err-pedestal-in-1.ensures l)))
 
-pub returns-in_err-less : goal.returns-in_err-less
-returns-in_err-less c n d b =
+pub returns-in_err-less-in-1 : goal.returns-in_err-less-in-1
+returns-in_err-less-in-1 c n d b =
     let f : File = bits_of c.args.self.bytes.now in
     let t = c.args.kind in
     let w = c.width_of-width.result in
     let a = c.args.algorithm in
     let p = c.args.at.bits in
     let l = c.args.last.bits in
-    passed (with_added n d b a t) c.from_residual-in_err-less.result c.in_err-less.field-0.0 _ c.from_residual-in_err-less.ensures.1
+    passed (with_added n d b a t) c.from_residual-in_err-less-in-1.result c.in_err-less-in-1.field-0.0 _ c.from_residual-in_err-less-in-1.ensures.1
     (reduced-less n d b a t f p l
     (is-algorithm w t a 1 c.width_of-width.ensures (omega (arith, c.if-width-eq0.false)) c.in-1.is)
-    (word-field w t f p l _ c.width_of-width.ensures (omega (arith, c.if-width-eq0.false)) (c.in_ok-pedestal.ensures l))
-    (c.in_err-less.ensures _))
+    (word-field w t f p l _ c.width_of-width.ensures (omega (arith, c.if-width-eq0.false)) (c.in_ok-pedestal-in-1.ensures l))
+    (c.in_err-less-in-1.ensures _))
 
 pub overflow_add-result : goal.overflow_add-result
 overflow_add-result c =
-    let t = c.in_ok-less.less in
-    omega (arith, taking-small 32 5 (bits_of c.args.self.bytes.now) c.in_ok-pedestal.pedestal.at.bits 0 t.value t.at.bits t.last.bits (c.in_ok-less.ensures 0))
+    let t = c.in_ok-less-in-1.less in
+    omega (arith, taking-small 32 5 (bits_of c.args.self.bytes.now) c.in_ok-pedestal-in-1.pedestal.at.bits 0 t.value t.at.bits t.last.bits (c.in_ok-less-in-1.ensures 0))
 
-pub returns-in_ok-less : goal.returns-in_ok-less
-returns-in_ok-less c n d b =
+pub returns-in_ok-less-in-1 : goal.returns-in_ok-less-in-1
+returns-in_ok-less-in-1 c n d b =
     let f : File = bits_of c.args.self.bytes.now in
     let t = c.args.kind in
     let w = c.width_of-width.result in
     let a = c.args.algorithm in
     let p = c.args.at.bits in
     let l = c.args.last.bits in
-    let x = c.in_ok-less.less in
-    let v = c.in_ok-pedestal.pedestal.value in
+    let x = c.in_ok-less-in-1.less in
+    let v = c.in_ok-pedestal-in-1.pedestal.value in
     let up : x.value + 1 ≡ suc x.value = omega arith in
     ap (λ (r : ℕ). got (record { repeats = n; delta = eqb d 1; turn = b; algorithm = a; kind = t; narrow = r; value = v }) x.at.bits x.last.bits) up
     ∙ reduced-on n d b a t f p l
     (is-algorithm w t a 1 c.width_of-width.ensures (omega (arith, c.if-width-eq0.false)) c.in-1.is)
-    (word-field w t f p l _ c.width_of-width.ensures (omega (arith, c.if-width-eq0.false)) (c.in_ok-pedestal.ensures l))
-    (c.in_ok-less.ensures _)
+    (word-field w t f p l _ c.width_of-width.ensures (omega (arith, c.if-width-eq0.false)) (c.in_ok-pedestal-in-1.ensures l))
+    (c.in_ok-less-in-1.ensures _)
 
-pub returns-in_err-word : goal.returns-in_err-word
-returns-in_err-word c n d b =
+pub returns-in_err-word-in-6 : goal.returns-in_err-word-in-6
+returns-in_err-word-in-6 c n d b =
     let f : File = bits_of c.args.self.bytes.now in
     let t = c.args.kind in
     let w = c.width_of-width.result in
     let a = c.args.algorithm in
     let p = c.args.at.bits in
     let l = c.args.last.bits in
-    passed (with_added n d b a t) c.from_residual-in_err-word.result c.in_err-word.field-0.0 _ c.from_residual-in_err-word.ensures.1
+    passed (with_added n d b a t) c.from_residual-in_err-word-in-6.result c.in_err-word-in-6.field-0.0 _ c.from_residual-in_err-word-in-6.ensures.1
     (constant-not n d b a t f p l (six-not-one t a c.in-6.is)
     (is-algorithm w t a 6 c.width_of-width.ensures (omega (arith, c.if-width-eq0.false)) c.in-6.is)
-    (word-field w t f p l _ c.width_of-width.ensures (omega (arith, c.if-width-eq0.false)) (c.in_err-word.ensures l)))
+    (word-field w t f p l _ c.width_of-width.ensures (omega (arith, c.if-width-eq0.false)) (c.in_err-word-in-6.ensures l)))
 
-pub returns-in_ok-word : goal.returns-in_ok-word
-returns-in_ok-word c n d b =
+pub returns-in_ok-word-in-6 : goal.returns-in_ok-word-in-6
+returns-in_ok-word-in-6 c n d b =
     let f : File = bits_of c.args.self.bytes.now in
     let t = c.args.kind in
     let w = c.width_of-width.result in
@@ -92,4 +92,4 @@ returns-in_ok-word c n d b =
     let l = c.args.last.bits in
     constant-on n d b a t f p l (six-not-one t a c.in-6.is)
     (is-algorithm w t a 6 c.width_of-width.ensures (omega (arith, c.if-width-eq0.false)) c.in-6.is)
-    (word-field w t f p l _ c.width_of-width.ensures (omega (arith, c.if-width-eq0.false)) (c.in_ok-word.ensures l))
+    (word-field w t f p l _ c.width_of-width.ensures (omega (arith, c.if-width-eq0.false)) (c.in_ok-word-in-6.ensures l))

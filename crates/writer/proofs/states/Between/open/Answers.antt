@@ -53,7 +53,16 @@ invariant_of-result c =
     let h = c.if-buffer-edge.false in
     let k : length c.rest.new.table ≡ length t = c.rest.auto.table in
     let one = at_least_one e.flags (length t) (sym c.if-is_wrong_count.ensures) in
-    (c.args.self.limit, (omega (arith, p, f, h), (c.args.self.head, (omega (arith, p, l), (c.args.self.sections, (omega (arith, c.args.self.raw), (omega (arith, k, one), (omega arith, tt))))))))
+    record {
+      limit = c.args.self.limit;
+      place = omega (arith, p, f, h);
+      head = c.args.self.head;
+      fields = omega (arith, p, l);
+      sections = c.args.self.sections;
+      raw = omega (arith, c.args.self.raw);
+      turn = omega (arith, k, one);
+      given = omega arith;
+    }
 
 pub returns : goal.returns
 returns c =

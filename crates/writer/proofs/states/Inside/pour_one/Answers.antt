@@ -47,7 +47,16 @@ behind_stream : (w : Inside) (b : List ℕ) (t : List Channel) (raw : List ℕ) 
 behind_stream w b t raw n r h l size repeats es er few =
     let room : w.spot.edge.raw + size * r.words ≤ 16777216 = subst (λ z. w.spot.edge.raw + z * r.words ≤ 16777216) (sym es) h.room in
     let g : r.words % repeats < repeats = mod-lt r.words (omega (arith, h.repeats, er)) in
-    (w.limit, (omega (arith, h.place, l), (w.head, (omega (arith, w.fields, h.from), (w.sections, (room, (omega arith, (omega (arith, g, few), tt))))))))
+    record {
+      limit = w.limit;
+      place = omega (arith, h.place, l);
+      head = w.head;
+      fields = omega (arith, w.fields, h.from);
+      sections = w.sections;
+      raw = room;
+      turn = omega arith;
+      given = omega (arith, g, few);
+    }
 
 -- where the writer, the buffer and the table are then
 pub record Left (s : Spot) (b : List ℕ) (t : List Channel) (raw : List ℕ) (r : Stream) (size repeats : ℕ) (row : Channel) : Type 0 where
@@ -116,7 +125,8 @@ invariant_of-self c =
     let r : Stream = told c.put_stream-streamed.result c.put_stream-streamed.new.buffer in
     let h = streams s b t raw c.in-Some.coder c.word_bytes-size.result n c.memory.result r c.requires.first.0 c.requires.first.1.0 c.requires.first.1.1 c.requires.lengths.1.1 c.requires.lengths.0 c.requires.lengths.1.0
     c.args.self.now.limit c.args.self.now.place (omega (arith, c.args.self.now.raw)) c.in-Some.ensures c.word_bytes-size.ensures.bytes c.smaller-count.ensures c.memory.ensures c.put_stream-streamed.ensures in
-    behind_stream c.args.self.now b t raw n r h c.requires.lengths.0 c.word_bytes-size.result c.repeats.result c.word_bytes-size.ensures.bytes c.repeats.ensures (omega (arith, c.repeats.type_inv))
+    let x = behind_stream c.args.self.now b t raw n r h c.requires.lengths.0 c.word_bytes-size.result c.repeats.result c.word_bytes-size.ensures.bytes c.repeats.ensures (omega (arith, c.repeats.type_inv)) in
+    record { limit = x.limit; place = x.place; head = x.head; fields = x.fields; sections = x.sections; raw = x.raw; turn = x.turn; given = x.given }
 
 pub returns-in-Some-fault : goal.returns-in-Some-fault
 returns-in-Some-fault c =
@@ -160,8 +170,8 @@ returns-then-count-all c =
       table = v.table;
     }
 
-pub returns-then-raw_size-ne0 : goal.returns-then-raw_size-ne0
-returns-then-raw_size-ne0 c =
+pub returns-then-raw-size-ne0 : goal.returns-then-raw-size-ne0
+returns-then-raw-size-ne0 c =
     let s : Spot = c.args.self.now.spot in
     let b : List ℕ = c.args.buffer.now in
     let t : List Channel = c.args.table.now in
@@ -177,7 +187,7 @@ returns-then-raw_size-ne0 c =
     let all-is : length raw / c.word_bytes-size.result ≡ all = ap (λ z. length raw / z) size_is in
     let rest-is : length raw % c.word_bytes-size.result ≡ rest = ap (λ z. length raw % z) size_is in
     let more : ltb n all ≡ false = within n all (omega (arith, c.if-count-all.false, all-is)) in
-    let cut : not (eqb rest 0) ≡ true = ap not (not-zero rest (λ e. c.if-raw_size-ne0.true (rest-is ∙ e))) in
+    let cut : not (eqb rest 0) ≡ true = ap not (not-zero rest (λ e. c.if-raw-size-ne0.true (rest-is ∙ e))) in
     record {
       answer = sym (told-by s b t raw n r h None false true (ap (option_map number_of) c.in_default-fault.is) more cut);
       state = v.state;
@@ -202,7 +212,7 @@ returns c =
     let all-is : length raw / c.word_bytes-size.result ≡ all = ap (λ z. length raw / z) size_is in
     let rest-is : length raw % c.word_bytes-size.result ≡ rest = ap (λ z. length raw % z) size_is in
     let more : ltb n all ≡ false = within n all (omega (arith, c.if-count-all.false, all-is)) in
-    let cut : not (eqb rest 0) ≡ false = ap (λ z. not (eqb z 0)) (sym rest-is ∙ c.if-raw_size-ne0.false) in
+    let cut : not (eqb rest 0) ≡ false = ap (λ z. not (eqb z 0)) (sym rest-is ∙ c.if-raw-size-ne0.false) in
     let d : c.bits.result - c.bits-2.result ≡ r.at - s.at.bits = ap (λ z. z - c.bits-2.result) c.bits.ensures ∙ ap (λ z. r.at - z) c.bits-2.ensures in
     record {
       answer = ap Ok d ∙ sym (told-by s b t raw n r h None false false (ap (option_map number_of) c.in_default-fault.is) more cut);

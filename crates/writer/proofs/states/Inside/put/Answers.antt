@@ -53,7 +53,8 @@ invariant_of-self c =
     let C : Coding (ℕ × Unit {0}) = coder_coding c.in-Some.coder in
     let a : gives (n, m) ≡ kept_put (laid s.at.bits (length b) (coded r c.args.word)) = c.in-Ok.ensures.answer ∙ by_row (λ f. kept_put (laid s.at.bits (length b) f)) C r c.memory.result c.args.word k.1 c.memory.ensures in
     let f = form_put s.at.bits b n m (coded r c.args.word) a in
-    behind-word c.args.self.now r n c.moved_on-self.result c.moved_on-self.ensures.value (length b) (length t) (sym c.if-is_strange.ensures) f.room (omega (arith, c.word_bytes.ensures.bytes, c.if-spot-word_bytes-gt-MOST_RAW.false)) c.moved_on-self.ensures.turn c.moved_on-self.ensures.given
+    let x = behind-word c.args.self.now r n c.moved_on-self.result c.moved_on-self.ensures.value (length b) (length t) (sym c.if-is_strange.ensures) f.room (omega (arith, c.word_bytes.ensures.bytes, c.if-spot-word_bytes-gt-MOST_RAW.false)) c.moved_on-self.ensures.turn c.moved_on-self.ensures.given in
+    record { limit = x.limit; place = x.place; head = x.head; fields = x.fields; sections = x.sections; raw = x.raw; turn = x.turn; given = x.given }
 
 pub returns : goal.returns
 returns c =

@@ -1,13 +1,13 @@
 -- Fields of a file: what is read, and what a write leaves.
-use Rattle.std.proofs.Common.{◌≡◌, ℕ, zero, suc, ◌+◌, ◌-◌, ◌*◌, ◌/◌, ◌%◌, ◌^◌, ◌<◌, ◌≤◌, min, Bool, true, false, List, [], ◌∷◌, ◌++◌, length, get_or, take, drop, sym, refl, ap, ◌∙◌, subst, append_assoc, mod-lt, mod-eq_of_lt, mul_assoc, add-mul, add_comm, suc-add, mul-lt-mul_of_pos_right, zero-add, add-one, one-add, arith, length-append, length-drop, length-take, pow_pos, pow_mono, pow-add, shr-shr, shr_lt}
-use native.Mathlib.Nat.{zero-div, zero-mod}
+use Rattle.std.proofs.Common.{◌≡◌, ℕ, zero, suc, ◌+◌, ◌-◌, ◌*◌, ◌/◌, ◌%◌, ◌^◌, ◌<◌, ◌≤◌, List, [], ◌∷◌, ◌++◌, length, get_or, take, drop, sym, ap, ◌∙◌, mod-lt, mul_assoc, add-mul, add_comm, mul-lt-mul_of_pos_right, arith, pow_pos, pow-add, shr-shr, shr_lt}
+use native.Mathlib.Nat.{zero-mod}
 use lib.Pow.{mod-pow-add, mod-mod-pow, field, high, low}
-use lib.Bits.{bit_and, bit_or, or_shifted, and_mask}
+use lib.Bits.{bit_or, or_shifted}
 use lib.Arith.{digits_lt}
-use Rattle.std.proofs.lemmas.List.{append-nil, take-append-drop, length-take-le, take_at, drop_at, drop_all, drop_more}
-use Rattle.bits.specs.Bits.{bits, number, bits_of, bytes, bytes_of, overwritten, stored, field_at, Bytes}
-use Rattle.bits.proofs.Numbers.{number_lt, number_append, length-bits, number-bits, number-inj, bits-number-at, bits-same, bits-split, number-take, number-drop}
-use Rattle.bits.proofs.Files.{length-bits_of, bits_of-append, take-bits_of, drop-bits_of, length-bytes, bytes-Bytes, bits_of-bytes, bytes-bits_of, bytes_of-bits_of, bits_of-inj, length-overwritten, overwritten-twice, overwritten-within, overwritten-read, drop_past, take_past}
+use Rattle.std.proofs.lemmas.List.{take_at, drop_at, drop_all, drop_more}
+use Rattle.bits.specs.Bits.{bits, number, bits_of, bytes, overwritten, stored, field_at, Bytes}
+use Rattle.bits.proofs.Numbers.{length-bits, number-bits, bits-same, bits-split, number-take, number-drop}
+use Rattle.bits.proofs.Files.{length-bits_of, bits_of-append, take-bits_of, drop-bits_of, bytes-Bytes, bits_of-bytes}
 
 -- a field by the number of the whole file
 pub field-number : (f : List ℕ) (a n : ℕ) → field_at f a n ≡ number (bits_of f) / 2 ^ a % 2 ^ n

@@ -1,9 +1,9 @@
 -- Files, their bits, and fields in them.
-use Rattle.std.proofs.Common.{◌≡◌, ℕ, zero, suc, ◌+◌, ◌-◌, ◌*◌, ◌/◌, ◌%◌, ◌^◌, ◌<◌, ◌≤◌, min, Bool, true, false, ◌⊎◌, List, [], ◌∷◌, ◌++◌, length, take, drop, replicate, sym, refl, ap, ◌∙◌, subst, inl, inr, ⊎_elim, append_assoc, mod-eq_of_lt, suc-add, zero-add, add-one, one-add, arith, length-append, length-drop, length-take, pow_pos, pow_mono}
+use Rattle.std.proofs.Common.{◌≡◌, ℕ, zero, suc, ◌+◌, ◌-◌, ◌*◌, ◌/◌, ◌%◌, ◌^◌, ◌≤◌, Bool, false, List, [], ◌∷◌, ◌++◌, length, take, drop, replicate, sym, refl, ap, ◌∙◌, append_assoc, mod-eq_of_lt, suc-add, zero-add, arith, length-append, length-drop, length-take, pow_mono}
 use native.Mathlib.Nat.{zero-mod}
-use Rattle.std.proofs.lemmas.List.{append-nil, take-append-drop, length-take-le, take_at, drop_at, take-append-le, drop-append-le, drop-drop, drop-take, take-take, take_all, drop_all, length-replicate, append_cancel_left, take-replicate, drop-replicate}
-use Rattle.bits.specs.Bits.{odd, worth, bits, number, bits_of, bytes, bytes_of, overwritten, field_at, Bytes}
-use Rattle.bits.proofs.Numbers.{number_lt, number_append, length-bits, number-bits, bits-number, number-inj, bits-number-at, bits-same, bits-split, number-take, number-drop}
+use Rattle.std.proofs.lemmas.List.{take-append-drop, length-take-le, take_at, drop_at, drop-append-le, drop-drop, take-take, length-replicate}
+use Rattle.bits.specs.Bits.{worth, bits, number, bits_of, bytes, bytes_of, overwritten, Bytes}
+use Rattle.bits.proofs.Numbers.{number_lt, number_append, length-bits, number-bits, number-inj, bits-number-at, number-take, number-drop}
 
 pub length-bits_of : (f : List ℕ) → length (bits_of f) ≡ 8 * length f
 unfolding bits_of

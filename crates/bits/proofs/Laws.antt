@@ -1,10 +1,10 @@
 -- The laws for users: what a put leaves to read, appending, padding, fields at byte places.
-use Rattle.std.proofs.Common.{◌≡◌, ℕ, zero, suc, ◌+◌, ◌-◌, ◌*◌, ◌/◌, ◌%◌, ◌^◌, ◌<◌, ◌≤◌, min, Bool, true, false, List, [], ◌∷◌, ◌++◌, length, get_or, take, drop, set, replicate, sym, refl, ap, ◌∙◌, subst, append_assoc, add-zero, mod-eq_of_lt, arith, length-append, length-drop, length-set, length-take}
+use Rattle.std.proofs.Common.{◌≡◌, ℕ, zero, suc, ◌+◌, ◌-◌, ◌*◌, ◌/◌, ◌%◌, ◌^◌, ◌<◌, ◌≤◌, Bool, false, List, [], ◌++◌, length, get_or, take, drop, set, replicate, sym, refl, ap, ◌∙◌, append_assoc, add-zero, arith, length-append, length-drop, length-set, length-take}
 use native.Mathlib.Nat.{zero-mod, mod-le, div-eq_of_lt}
-use Rattle.std.proofs.lemmas.List.{append-nil, take-append-drop, length-take-le, take_at, drop_at, take-append-le, drop-append-le, drop-drop, drop-take, take-take, take_all, drop_all, length-replicate, drop-replicate, take-replicate, replicate-append-replicate}
+use Rattle.std.proofs.lemmas.List.{append-nil, take-append-drop, length-take-le, take_at, drop_at, take-append-le, drop-append-le, drop-drop, drop-take, take-take, drop_all, length-replicate, drop-replicate, take-replicate, replicate-append-replicate}
 use Rattle.bits.specs.Bits.{bits, number, bits_of, bytes, bytes_of, overwritten, put_bits, cleared_from, stored, field_at, Bytes}
-use Rattle.bits.proofs.Numbers.{length-bits, bits_mod, number-bits, bits-number-at, bits-split, number-inj, number_append}
-use Rattle.bits.proofs.Files.{length-bits_of, length-bytes, bits_of-append, bits-zero, overwritten-twice, take-bits_of, bits_of-inj, bits_of-bytes, bits_of-bytes_of, bytes_of-bits_of, bytes-Bytes, bytes_same, number-padded, number-zeros, overwritten-read, length-overwritten, drop_past, take_past, take-add}
+use Rattle.bits.proofs.Numbers.{length-bits, bits_mod, number-bits, bits-number-at, number-inj, number_append}
+use Rattle.bits.proofs.Files.{length-bits_of, length-bytes, bits_of-append, bits-zero, overwritten-twice, take-bits_of, bits_of-inj, bits_of-bytes, bits_of-bytes_of, bytes_of-bits_of, bytes-Bytes, number-zeros, overwritten-read, length-overwritten, drop_past, take_past}
 use Rattle.bits.proofs.Fields.{field_lt, take-bits, bits_of-from, Bytes-take, Bytes-append, Bytes-stored, bits_of-stored}
 use Rattle.bits.proofs.Places.{bits_of-put_bits, put_whole, put_byte, Bytes-set, Bytes-at, field_next}
 

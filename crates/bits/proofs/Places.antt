@@ -1,15 +1,14 @@
 -- Fields by whole bytes and words: what loads, stores and shifts do to the bits of a file.
-use Rattle.std.proofs.Common.{◌≡◌, ℕ, zero, suc, ◌+◌, ◌-◌, ◌*◌, ◌/◌, ◌%◌, ◌^◌, ◌<◌, ◌≤◌, min, Bool, true, false, List, [], ◌∷◌, ◌++◌, length, get_or, take, drop, set, sym, refl, ap, ◌∙◌, subst, append_assoc, add-zero, mod-lt, mod-eq_of_lt, mul_assoc, div-one, add-one, one-add, arith, length-append, length-drop, length-set, length-take, pow_pos, pow-add, shr_lt}
+use Rattle.std.proofs.Common.{◌≡◌, ℕ, zero, suc, ◌+◌, ◌-◌, ◌*◌, ◌/◌, ◌%◌, ◌^◌, ◌<◌, ◌≤◌, Bool, List, [], ◌∷◌, ◌++◌, length, get_or, take, drop, set, sym, ap, ◌∙◌, add-zero, mod-lt, mod-eq_of_lt, mul_assoc, div-one, arith, length-drop, length-take, pow_pos, pow-add, shr_lt}
 use native.Mathlib.Nat.{div-div-eq-div-mul, mul-mod_left}
 use lib.Pow.{mod-pow-add}
 use lib.Bits.{bit_or, or_shifted_r}
-use lib.Arith.{mod-mul}
-use Rattle.std.proofs.lemmas.Nat.{shl-shr, shl_whole, mod_low}
-use Rattle.std.proofs.lemmas.List.{take-append-drop, take_at, drop_at, set_split, drop-drop}
+use Rattle.std.proofs.lemmas.Nat.{shl-shr, shl_whole}
+use Rattle.std.proofs.lemmas.List.{take-append-drop, take_at, set_split}
 use Rattle.bits.specs.Bits.{bits, number, bits_of, bytes, bytes_of, overwritten, put_bits, stored, field_at, Bytes}
-use Rattle.bits.proofs.Numbers.{number_lt, length-bits, number-bits, bits-number-at, bits-split, number-take, number-drop}
-use Rattle.bits.proofs.Files.{length-bits_of, bits_of-append, take-bits_of, drop-bits_of, length-bytes, bytes-Bytes, bits_of-bytes, bytes_of-bits_of, length-overwritten, overwritten-twice, overwritten-within}
-use Rattle.bits.proofs.Fields.{field-number, field_lt, field_past, field-split, field-within, field-byte, field-more, bits_of-from, bits_of-stored, Bytes-append, Bytes-take, Bytes-drop, take-bits, drop_bits, merged-bits, merged-lt, mod_mod_le}
+use Rattle.bits.proofs.Numbers.{length-bits, number-bits, bits-number-at, bits-split}
+use Rattle.bits.proofs.Files.{length-bits_of, bits_of-append, take-bits_of, drop-bits_of, bits_of-bytes, bytes_of-bits_of, length-overwritten, overwritten-twice, overwritten-within}
+use Rattle.bits.proofs.Fields.{field-number, field_lt, field-split, field-within, field-byte, field-more, bits_of-from, bits_of-stored, take-bits, drop_bits, merged-bits, mod_mod_le}
 
 pub Bytes-from : (f : List ℕ) → ((i : ℕ) → get_or f i 0 < 256) → Bytes f
 unfolding Bytes

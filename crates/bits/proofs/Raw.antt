@@ -1,11 +1,9 @@
 -- Raw words, one by one and all together.
-use Rattle.std.proofs.Common.{◌≡◌, ℕ, zero, suc, ◌+◌, ◌-◌, ◌*◌, ◌/◌, ◌%◌, ◌^◌, ◌<◌, ◌≤◌, Bool, List, [], ◌∷◌, ◌++◌, length, get_or, take, drop, sym, refl, ap, ◌∙◌, subst, mul_comm, mul-zero, mul-suc, arith, length-append, length-drop, length-take}
-use Rattle.std.proofs.lemmas.List.{drop-drop, take_at, drop_at, take-append-drop, append_assoc}
-use Rattle.bits.specs.Bits.{bits, number, bits_of, bytes, put_bits, stored, field_at, Bytes}
+use Rattle.std.proofs.Common.{◌≡◌, ℕ, zero, suc, ◌+◌, ◌*◌, ◌<◌, ◌≤◌, List, [], ◌∷◌, length, get_or, take, drop, sym, refl, ap, ◌∙◌, mul-zero, mul-suc, arith, length-append, length-drop}
+use Rattle.std.proofs.lemmas.List.{drop-drop}
+use Rattle.bits.specs.Bits.{bits, number, bits_of, bytes, field_at}
 use Rattle.bits.specs.Raw.{raw_words, raw_bytes}
-use Rattle.bits.proofs.Numbers.{length-bits, number-bits}
-use Rattle.bits.proofs.Files.{length-bits_of, bits_of-append, drop-bits_of, length-bytes, bits_of-bytes, take-add}
-use Rattle.bits.proofs.Fields.{field_past}
+use Rattle.bits.proofs.Files.{drop-bits_of, length-bytes}
 
 pub length-raw_words : (k n : ℕ) (raw : List ℕ) → length (raw_words k n raw) ≡ n
 unfolding raw_words

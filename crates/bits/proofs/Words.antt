@@ -1,12 +1,11 @@
 -- Bits that wait in a word for the rest of their eight bytes.
-use Rattle.std.proofs.Common.{◌≡◌, ℕ, zero, suc, ◌+◌, ◌-◌, ◌*◌, ◌/◌, ◌%◌, ◌^◌, ◌<◌, ◌≤◌, Bool, true, false, List, [], ◌∷◌, ◌++◌, length, take, drop, replicate, sym, refl, ap, ◌∙◌, subst, append_assoc, add-zero, mod-lt, mod-eq_of_lt, add_comm, arith, length-append, length-take, pow_pos, pow-add, shr_lt}
-use native.Mathlib.Nat.{mul-mod_left, mod-mod, zero-mod, div-eq_of_lt}
+use Rattle.std.proofs.Common.{◌≡◌, ℕ, zero, suc, ◌+◌, ◌-◌, ◌*◌, ◌/◌, ◌%◌, ◌^◌, ◌<◌, ◌≤◌, List, ◌++◌, length, sym, refl, ap, ◌∙◌, append_assoc, mod-lt, mod-eq_of_lt, add_comm, arith, pow_pos, pow-add, shr_lt}
+use native.Mathlib.Nat.{mul-mod_left, mod-mod}
 use lib.Pow.{mod-pow-add, field, high, low}
 use lib.Bits.{bit_or, or_shifted_r}
 use lib.Arith.{digits_lt}
 use Rattle.std.proofs.lemmas.Nat.{shl-shr, shl_whole}
-use Rattle.std.proofs.lemmas.List.{take_at, append-nil, length-take-le, length-replicate}
-use Rattle.bits.specs.Bits.{bits, bits_of, bytes_of, put_bits, stored, Bytes}
+use Rattle.bits.specs.Bits.{bits, put_bits, stored, Bytes}
 use Rattle.bits.proofs.Numbers.{length-bits, bits-same, bits-split, bits_mod}
 use Rattle.bits.proofs.Fields.{mod_mod_le}
 use Rattle.bits.proofs.Laws.{put_bits-twice, put-stored}

@@ -1,2 +1,4 @@
+#![tactic(auto)]
+
 // The theory of bit strings: see specs/.
 pub fn nothing() {}

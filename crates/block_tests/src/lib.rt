@@ -1,4 +1,6 @@
 // Blocks, on examples.
+#![tactic(auto)]
+
 use blocks::block::{pack, read};
 use coder::coder::Coder;
 use coder::delta::Delta;

@@ -1,11 +1,11 @@
 -- Reading gives the words of a block exactly where the bits begin with it, and a packed block reads back.
-use Rattle.std.proofs.Common.{◌≡◌, ℕ, zero, suc, ◌+◌, ◌-◌, ◌*◌, ◌/◌, ◌%◌, ◌<◌, ◌≤◌, Bool, true, false, cond, eqb, leb, List, [], ◌∷◌, ◌++◌, length, take, drop, replicate, Some, None, Option, sym, refl, ap, ◌∙◌, subst, append_assoc, arith, length-append, length-drop, length-take}
+use Rattle.std.proofs.Common.{◌≡◌, ℕ, zero, suc, ◌+◌, ◌-◌, ◌*◌, ◌/◌, ◌%◌, ◌≤◌, Bool, true, false, cond, eqb, leb, List, [], ◌∷◌, ◌++◌, length, take, drop, replicate, Some, None, Option, sym, refl, ap, ◌∙◌, subst, append_assoc, arith, length-append, length-take}
 use Rattle.std.proofs.lemmas.List.{take-append-drop, take_at, drop_at, drop-drop}
 use Rattle.bits.specs.Bits.{bits_of, bytes_of}
-use Rattle.bits.proofs.Files.{length-bits_of, bits_of-bytes_of, take-add}
+use Rattle.bits.proofs.Files.{bits_of-bytes_of, take-add}
 use Rattle.bits.proofs.Laws.{length-bytes_of}
 use Rattle.forms.specs.Code.{Means, Found, form, short, walk}
-use Rattle.forms.specs.Coding.{Coding, Sound, Decoding, word, dead, partial, told, decoded}
+use Rattle.forms.specs.Coding.{Coding, Sound, told, decoded}
 use Rattle.forms.specs.Blocks.{Block, block_bits}
 use Rattle.forms.proofs.Blocks.{block_of}
 use Rattle.forms.proofs.Codes.{walk-form, walk-means}

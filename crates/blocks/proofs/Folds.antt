@@ -1,5 +1,5 @@
 -- The loops over a block's words, one step and all together.
-use Rattle.std.proofs.Common.{◌≡◌, ℕ, zero, suc, ◌+◌, ◌-◌, ◌*◌, ◌/◌, ◌%◌, ◌<◌, ◌≤◌, Bool, true, false, cond, leb, List, [], ◌∷◌, ◌++◌, length, get_or, take, drop, replicate, is_some, Some, None, Option, sym, refl, ap, ◌∙◌, subst, mul-le-mul_left, arith, length-append}
+use Rattle.std.proofs.Common.{◌≡◌, ℕ, suc, ◌+◌, ◌-◌, ◌*◌, ◌/◌, ◌%◌, ◌<◌, ◌≤◌, Bool, true, false, cond, leb, List, [], ◌∷◌, ◌++◌, length, get_or, drop, replicate, is_some, Some, None, Option, sym, refl, ap, ◌∙◌, subst, mul-le-mul_left, arith, length-append}
 use Rattle.std.proofs.lemmas.List.{at_drop_more, at_drop_all}
 use Rattle.std.specs.Option.{option_map}
 use Rattle.std.proofs.lemmas.Bool.Decides.{nat_tests}
@@ -8,7 +8,7 @@ use Rattle.std.proofs.lemmas.Bool.{le-leb}
 use Rattle.blocks.specs.Blocks.{over}
 use Rattle.bits.specs.Bits.{bits, bits_of, bytes_of, put_bits, overwritten, field_at, Bytes}
 use Rattle.bits.specs.Raw.{raw_words}
-use Rattle.bits.proofs.Raw.{word_at, length-raw_words}
+use Rattle.bits.proofs.Raw.{word_at}
 use Rattle.bits.proofs.Numbers.{length-bits}
 use Rattle.bits.proofs.Files.{length-bits_of, bits_of-append, drop-bits_of, bits-zero, bits_of-bytes_of}
 use Rattle.bits.proofs.Fields.{Bytes-append, Bytes-drop}

@@ -1,5 +1,5 @@
 -- What packing and reading a block answer, and what the output then holds.
-use Rattle.std.specs.Prelude.{◌≡◌, ℕ, ◌+◌, ◌*◌, ◌/◌, ◌%◌, ◌≤◌, Bool, cond, List, [], ◌∷◌, ◌++◌, length, take, drop, Some, None, Option, ◌==◌, nat_le}
+use Rattle.std.specs.Prelude.{◌≡◌, ℕ, ◌+◌, ◌*◌, ◌/◌, ◌%◌, Bool, cond, List, ◌++◌, length, take, drop, Some, None, Option, ◌==◌, nat_le}
 use Rattle.bits.specs.Bits.{bits_of, bytes_of}
 use Rattle.bits.specs.Raw.{raw_words, raw_bytes}
 use Rattle.forms.specs.Coding.{Coding}

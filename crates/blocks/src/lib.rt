@@ -1,2 +1,4 @@
 // Blocks of words over any coder.
+#![tactic(auto)]
+
 pub mod block;

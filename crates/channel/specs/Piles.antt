@@ -1,7 +1,7 @@
 -- A channel's coder in the code, and in the file's description.
-use Rattle.std.specs.Prelude.{◌≡◌, ℕ, ◌%◌, ◌<◌, ◌≤◌, Bool, true, false, Some, None, Option}
+use Rattle.std.specs.Prelude.{◌≡◌, ℕ, ◌%◌, ◌<◌, ◌≤◌, true, false, Some, None, Option}
 use Rattle.forms.specs.Coding.{Coding}
-use Rattle.forms.specs.Coders.{plain, null, constant, reduced, turn, delta_if}
+use Rattle.forms.specs.Coders.{plain, turn, delta_if}
 use Rattle.coders.specs.Chosen.{coding_of}
 use Rattle.coders.specs.declared.kinds.Algorithm.{Algorithm}
 use Rattle.coder.specs.declared.turn.Turn.{Turn}

@@ -1,5 +1,5 @@
 -- Channel records as the settings of recordings.
-use Rattle.std.specs.Prelude.{ℕ, Bool, false, cond, List, map}
+use Rattle.std.specs.Prelude.{ℕ, false, cond}
 use Rattle.faults.specs.Faults.{Answer, gives, fault}
 use Rattle.layout.specs.Recording as recordings
 use Rattle.layout.specs.Channels.{ruled}

@@ -1,4 +1,6 @@
 // Channel records: the settings of a channel and its memory.
+#![tactic(auto)]
+
 pub mod coder;
 pub mod describe;
 pub mod make;

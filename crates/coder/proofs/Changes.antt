@@ -1,5 +1,5 @@
 -- The two changes, from what the code within and the arithmetic answer; v is the width as the code has it.
-use Rattle.std.proofs.Common.{◌≡◌, ℕ, ◌-◌, ◌%◌, ◌^◌, ◌<◌, ◌≤◌, Bool, true, false, ltb, List, Some, None, Option, sym, refl, ap, ◌∙◌, mod-lt, mod-eq_of_lt, arith}
+use Rattle.std.proofs.Common.{◌≡◌, ℕ, ◌-◌, ◌%◌, ◌^◌, ◌<◌, ◌≤◌, Bool, true, false, ltb, List, None, Option, sym, ap, ◌∙◌, mod-eq_of_lt, arith}
 use Rattle.std.proofs.lemmas.Bool.{ltb-true, ltb-false}
 use Rattle.forms.specs.Coding.{Coding, Sound, encoded, Decoding, word, decoded}
 use Rattle.forms.specs.Coders.{minus, plus, rotr, turn, delta}

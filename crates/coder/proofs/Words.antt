@@ -1,9 +1,9 @@
 -- The step of one word, from what a coder and a field answer.
-use Rattle.std.proofs.Common.{◌≡◌, ℕ, ◌+◌, ◌*◌, ◌≤◌, Bool, true, false, cond, leb, List, length, Some, None, Option, sym, refl, ap, ◌∙◌, arith}
+use Rattle.std.proofs.Common.{◌≡◌, ℕ, ◌+◌, ◌*◌, ◌≤◌, Bool, true, false, cond, leb, List, length, Some, Option, sym, ap, ◌∙◌}
 use Rattle.std.proofs.lemmas.Bool.{le-leb}
 use Rattle.bits.specs.Bits.{bits, put_bits, field_at}
 use Rattle.bits.proofs.Numbers.{length-bits}
-use Rattle.faults.specs.Faults.{Answer, gives, fault}
+use Rattle.faults.specs.Faults.{gives, fault}
 use Rattle.fields.specs.Fields.{is_field, within, remaining}
 use Rattle.fields.specs.declared.field.Window.{Window}
 use Rattle.forms.specs.Coding.{Coding, Sound, Decoding, decoded}

@@ -1,4 +1,6 @@
 // Coders: what one is, the changes that go over any, and the step of one word.
+#![tactic(auto)]
+
 pub mod coder;
 pub mod delta;
 pub mod form;

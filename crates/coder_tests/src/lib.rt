@@ -1,4 +1,6 @@
 // Coders, on examples.
+#![tactic(auto)]
+
 use coder::coder::Coder;
 use coder::delta::Delta;
 use coder::form::Decoded;

@@ -1,4 +1,6 @@
 // The coders of slim files, and the pile of a channel.
+#![tactic(auto)]
+
 pub mod algorithm;
 pub mod beside;
 pub mod constant;

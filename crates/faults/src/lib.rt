@@ -1,4 +1,6 @@
 // The closed table of faults: each has a number and a place in bits.
+#![tactic(auto)]
+
 ghost use Rattle.std.specs.Prelude.{◌≡◌};
 ghost use Rattle.faults.specs.Faults.{number_of};
 

@@ -1,4 +1,6 @@
 // Fields of one width, packed and read back: exported to C, to be measured there.
+#![tactic(auto)]
+
 ghost use Rattle.std.specs.Prelude.{◌≡◌, ℕ, ◌*◌, ◌%◌, ◌^◌, true, length, if◌then◌else◌, nat_le};
 ghost use Rattle.field_bench.specs.Packing.{mixed, packs, packed_size, packed, checksum};
 

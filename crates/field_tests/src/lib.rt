@@ -1,4 +1,6 @@
 // Fields of bits, on examples.
+#![tactic(auto)]
+
 use fields::accumulator::Accumulator;
 use fields::clear::clear_from;
 use fields::field::{put_field, take_field, window_at};

@@ -1,6 +1,6 @@
 -- What the calls on fields answer and leave.
-use Rattle.std.specs.Prelude.{ℕ, ◌+◌, ◌-◌, ◌*◌, min, Bool, false, cond, List, length, Some, None, Option, nat_le}
-use Rattle.bits.specs.Bits.{bits, put_bits, field_at}
+use Rattle.std.specs.Prelude.{ℕ, ◌+◌, ◌-◌, ◌*◌, min, Bool, false, cond, List, nat_le}
+use Rattle.bits.specs.Bits.{bits, put_bits}
 
 -- the n bits from a place on lie within so many bytes
 abbrev pub within : ℕ → ℕ → ℕ → Bool

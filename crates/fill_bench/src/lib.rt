@@ -1,4 +1,6 @@
 // A section of one channel, filled behind the head of a file: exported to C, to be measured there.
+#![tactic(auto)]
+
 ghost use Rattle.std.specs.Prelude.{◌≡◌};
 ghost use Rattle.fill_bench.specs.Files.{halves, filled_bits, filled_bytes};
 

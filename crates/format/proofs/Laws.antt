@@ -1,9 +1,9 @@
 -- The laws of a format, and that each way to make one keeps them.
-use Rattle.std.proofs.Common.{◌≡◌, ℕ, zero, suc, ◌+◌, ◌-◌, ◌*◌, ◌/◌, ◌%◌, ◌^◌, ◌<◌, ◌≤◌, Bool, true, false, cond, eqb, leb, List, [], ◌∷◌, ◌++◌, length, get_or, replicate, sym, refl, ap, ◌∙◌, subst, ap₂, add-zero, add_assoc, arith, length-append, eq-eqb, eqb-true, le-leb, leb-false, leb-true}
+use Rattle.std.proofs.Common.{◌≡◌, ℕ, zero, suc, ◌+◌, ◌%◌, ◌^◌, ◌<◌, ◌≤◌, Bool, true, false, cond, eqb, leb, List, [], ◌∷◌, ◌++◌, length, get_or, replicate, sym, refl, ap, ◌∙◌, ap₂, add-zero, add_assoc, arith, length-append, eq-eqb, eqb-true, le-leb, leb-true}
 use lib.ListN.{length-replicate}
 use Rattle.std.proofs.lemmas.List.{append-nil}
 use Rattle.std.proofs.lemmas.Bool.{cond-true}
-use Rattle.format.specs.Cells.{File, size, number, Cell, bit, pad, bits, Fits, Stands}
+use Rattle.format.specs.Cells.{File, size, number, pad, bits, Fits, Stands}
 use Rattle.format.specs.Format.{Outcome, got, fault, next, Format, Part, field, whole, refuse, ◌>>=◌, ◌∈◌, padding, judged, choose, gap, once, one, each, each_read, EachValid, each_cells, times, ahead, mapped}
 use Rattle.format.specs.Lawful.{Lawful}
 use Rattle.format.proofs.Standing.{number-below, number-stands, stands-number, length-bits, stands-append, stands-front, stands-back, stands-inside, pads_stand}

@@ -1,15 +1,13 @@
 -- A window of 64 bits is enough to read a form.
-use Rattle.std.proofs.Common.{◌≡◌, ℕ, zero, suc, ◌+◌, ◌-◌, ◌*◌, ◌^◌, ◌<◌, ◌≤◌, min, Bool, ◌⊎◌, List, [], ◌∷◌, ◌++◌, length, take, drop, Some, None, Option, sym, refl, ap, ◌∙◌, subst, inl, inr, ⊎_elim, append_assoc, arith, length-drop, take-append-drop, length-take}
-use mathlib.Core.Path.{subst⁻¹}
-use Rattle.std.proofs.lemmas.List.{take_all, take-take}
+use Rattle.std.proofs.Common.{◌≡◌, ℕ, ◌-◌, ◌*◌, ◌^◌, ◌<◌, ◌≤◌, min, Bool, List, ◌++◌, length, take, drop, Some, Option, sym, ap, ◌∙◌, subst, ⊎_elim, append_assoc, arith, length-drop, take-append-drop, length-take}
+use Rattle.std.proofs.lemmas.List.{take_all}
 use Rattle.std.proofs.lemmas.Bool.{cases_lt}
-use Rattle.bits.specs.Bits.{bits, number, bits_of, field_at}
+use Rattle.bits.specs.Bits.{bits, bits_of, field_at}
 use Rattle.bits.proofs.Numbers.{length-bits, bits-number-at}
 use Rattle.bits.proofs.Files.{length-bits_of}
-use Rattle.forms.specs.Code.{Code, Means, Found, form, short, walk, form_of}
+use Rattle.forms.specs.Code.{Code, Means, Found, form, walk, form_of}
 use Rattle.forms.specs.Rules.{Rules}
 use Rattle.forms.proofs.Codes.{walk-form, walk-means, form_of-means}
-use Rattle.format.specs.Format.{Outcome, Format}
 use Rattle.format.specs.Word.{told, word}
 
 window-bits : (f : List ℕ) (at : ℕ) → bits (min 64 (8 * length f - at)) (field_at f at 64) ≡ take 64 (drop at (bits_of f))

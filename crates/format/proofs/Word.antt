@@ -1,12 +1,12 @@
 -- The law of a word follows from the rules of its code.
-use Rattle.std.proofs.Common.{◌≡◌, ℕ, zero, suc, ◌+◌, ◌<◌, ◌≤◌, Bool, List, [], ◌∷◌, ◌++◌, length, take, drop, Some, None, Option, sym, refl, ap, ◌∙◌, subst, arith, take-append-drop, length-take}
+use Rattle.std.proofs.Common.{◌≡◌, ℕ, ◌+◌, Bool, List, length, take, drop, Some, None, sym, ap, ◌∙◌, subst, arith, take-append-drop, length-take}
 use mathlib.Core.Path.{subst⁻¹}
 use Rattle.forms.specs.Code.{Code, Means, Found, form, short, walk, form_of}
 use Rattle.forms.specs.Rules.{Rules}
 use Rattle.forms.proofs.Codes.{walk-form, walk-means}
 use Rattle.forms.proofs.Rules.{form_of-is}
-use Rattle.format.specs.Cells.{File, size, Cell, marked, Fits, Stands}
-use Rattle.format.specs.Format.{Outcome, got, fault, Format}
+use Rattle.format.specs.Cells.{marked, Fits, Stands}
+use Rattle.format.specs.Format.{got}
 use Rattle.format.specs.Lawful.{Lawful}
 use Rattle.format.specs.Word.{given, told, word}
 use Rattle.format.proofs.Standing.{length_marked, fits-marked, marked-fits}

@@ -1,6 +1,6 @@
 -- Formats: what is written for a value, and how it is read, and the ways to put formats together.
-use Rattle.std.specs.Prelude.{◌≡◌, ℕ, zero, suc, ◌+◌, ◌-◌, ◌*◌, ◌/◌, ◌%◌, ◌^◌, ◌<◌, ◌≤◌, Bool, true, false, cond, List, [], ◌∷◌, ◌++◌, length, replicate, ◌==◌, nat_le}
-use Rattle.format.specs.Cells.{File, size, number, Cell, bit, pad, bits}
+use Rattle.std.specs.Prelude.{◌≡◌, ℕ, zero, suc, ◌+◌, ◌-◌, ◌%◌, ◌^◌, ◌<◌, Bool, true, false, cond, List, [], ◌∷◌, ◌++◌, length, replicate, ◌==◌, nat_le}
+use Rattle.format.specs.Cells.{File, size, number, Cell, pad, bits}
 
 -- What reading gives: a value, with the place behind it and the first bit of the field last tried,
 -- or a fault, with its number and place.

@@ -1,7 +1,7 @@
 -- A word of a code, as a part of a file.
-use Rattle.std.specs.Prelude.{ℕ, zero, suc, ◌+◌, Bool, List, [], drop, Some, None, Option}
+use Rattle.std.specs.Prelude.{ℕ, ◌+◌, Bool, List, [], drop, Some, None, Option}
 use Rattle.forms.specs.Code.{Code, Means, Found, form, short, walk, form_of}
-use Rattle.format.specs.Cells.{File, Cell, marked}
+use Rattle.format.specs.Cells.{marked}
 use Rattle.format.specs.Format.{Outcome, got, fault, Format}
 
 abbrev pub given : Option (List Bool) → List Bool

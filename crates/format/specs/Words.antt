@@ -1,5 +1,5 @@
 -- The words of a section: each channel of the table gives its repeats in turn, frame after frame, and has a memory of its own.
-use Rattle.std.specs.Prelude.{ℕ, zero, suc, ◌%◌, List, [], ◌∷◌, ◌++◌, length, replicate, slice_index, slice_index_or, slice_set}
+use Rattle.std.specs.Prelude.{ℕ, suc, ◌%◌, List, [], ◌∷◌, ◌++◌, length, replicate, slice_index, slice_index_or, slice_set}
 use Rattle.forms.specs.Code.{Code}
 use Rattle.forms.specs.Coding.{Coding}
 use Rattle.format.specs.Format.{Format, each}

@@ -1,8 +1,7 @@
 -- Blocks of any coder that keeps the rules: what they are, and that two are apart.
 use Rattle.std.proofs.Common.{◌≡◌, ℕ, Bool, List, [], ◌∷◌, ◌++◌, length, Some, None, Option, sym, refl, ap, ◌∙◌, subst, append_assoc, arith}
-use mathlib.Core.Path.{subst⁻¹}
 use Rattle.std.proofs.lemmas.List.{append_cancel_left}
-use Rattle.forms.specs.Code.{Code, Means, form_of}
+use Rattle.forms.specs.Code.{form_of}
 use Rattle.forms.specs.Coding.{Coding, Sound}
 use Rattle.forms.specs.Blocks.{Block, followed, block_bits, Apart}
 use Rattle.forms.proofs.Codes.{some_same, none-some, form_of-means}

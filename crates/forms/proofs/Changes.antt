@@ -1,10 +1,9 @@
 -- What a change of words over a coder answers, from what the coder within answers.
 use Rattle.std.proofs.Common.{◌≡◌, ℕ, ◌-◌, ◌^◌, ◌<◌, ◌≤◌, Bool, false, List, Some, None, Option, sym, refl, ap, ◌∙◌, subst, arith}
-use mathlib.Core.Path.{subst⁻¹}
-use Rattle.forms.specs.Code.{Code, Means, Found, form, short, walk, form_of, renamed}
+use Rattle.forms.specs.Code.{Means, Found, form, short, walk, form_of, renamed}
 use Rattle.forms.specs.Rules.{Rules}
 use Rattle.forms.specs.Coding.{Coding, Sound, behind, encoded, Decoding, word, dead, partial, told, decoded}
-use Rattle.forms.proofs.Codes.{named, found, walk-renamed, walk-means}
+use Rattle.forms.proofs.Codes.{found, walk-renamed, walk-means}
 use Rattle.forms.specs.Coders.{minus, plus, rotr, turn, delta, delta_if}
 use Rattle.forms.proofs.Rules.{Swaps, form_of-renamed, form_of-over}
 use Rattle.forms.proofs.Coders.{turn-swaps, delta-swaps}

@@ -1,17 +1,17 @@
 -- The coders keep the rules.
-use Rattle.std.proofs.Common.{◌≡◌, ℕ, zero, suc, ◌+◌, ◌-◌, ◌*◌, ◌/◌, ◌%◌, ◌^◌, ◌<◌, ◌≤◌, Bool, true, false, cond, ltb, List, [], ◌∷◌, ◌++◌, length, Some, None, Option, sym, refl, ap, ◌∙◌, subst, append-nil, lt_of_lt_of_le, mod-lt, mod-eq_of_lt, arith, pow_pos, pow_mono, pow-add, shr_lt, ltb-false, ltb-true, le-ltb, lt-ltb}
+use Rattle.std.proofs.Common.{◌≡◌, ℕ, ◌+◌, ◌-◌, ◌*◌, ◌/◌, ◌%◌, ◌^◌, ◌<◌, ◌≤◌, Bool, true, false, cond, ltb, List, [], ◌∷◌, ◌++◌, length, Some, None, Option, sym, refl, ap, ◌∙◌, subst, append-nil, lt_of_lt_of_le, mod-lt, mod-eq_of_lt, arith, pow_pos, pow_mono, pow-add, shr_lt, ltb-false}
 use mathlib.Core.Path.{subst⁻¹}
 use native.Mathlib.Nat.{mod-add-mod, add-mod_right}
 use lib.Arith.{digits_lt}
 use lib.Pow.{high, low, split}
 use Rattle.std.proofs.lemmas.Bool.{cond-true, cond-false}
 use Rattle.bits.specs.Bits.{bits, number}
-use Rattle.bits.proofs.Numbers.{length-bits, number-bits, number_lt, bits-number-at}
-use Rattle.forms.specs.Code.{Code, ends, fork, Means, walk, form, short, field, renamed, Within}
+use Rattle.bits.proofs.Numbers.{number_lt, bits-number-at}
+use Rattle.forms.specs.Code.{Code, ends, Means, Within}
 use Rattle.forms.specs.Rules.{Rules}
 use Rattle.forms.specs.Coding.{Coding, Sound}
-use Rattle.forms.specs.Coders.{minus, plus, rotr, plain, null, constant, after_few, reduced, turn, delta, beside, delta_if}
-use Rattle.forms.proofs.Codes.{Split, field-means, means-field, within-field, within_more, within-renamed, some_same, none-some}
+use Rattle.forms.specs.Coders.{minus, plus, rotr, null, constant, after_few, reduced, turn, delta, beside, delta_if}
+use Rattle.forms.proofs.Codes.{means-field, within-field, within_more, some_same, none-some}
 use Rattle.forms.proofs.Rules.{rules-of, Swaps, renamed-rules}
 
 pub ends-means : (u : Option ℕ) (s : List Bool) (o : Option ℕ) → Means (ends u) s o → (s ≡ []) × (o ≡ u)

@@ -1,5 +1,5 @@
 -- The laws of every coder, from the rules.
-use Rattle.std.proofs.Common.{◌≡◌, ℕ, Bool, List, ◌++◌, length, take, drop, Some, None, Option, sym, refl, ap, ◌∙◌, ⊎_elim, arith, take-append-drop}
+use Rattle.std.proofs.Common.{◌≡◌, ℕ, Bool, List, length, take, drop, Some, None, Option, sym, refl, ap, ◌∙◌, ⊎_elim, arith, take-append-drop}
 use Rattle.forms.specs.Code.{Means, Found, form, short, walk, form_of}
 use Rattle.forms.specs.Rules.{Begins, ExactlyOne, Partial}
 use Rattle.forms.specs.Coding.{Coding, Sound, behind, encoded, told, decoded}

@@ -1,5 +1,5 @@
 -- Words within w bits: what wrapping and rotating at a machine's width give, over the width.
-use Rattle.std.proofs.Common.{◌≡◌, ℕ, ◌+◌, ◌-◌, ◌*◌, ◌/◌, ◌%◌, ◌^◌, ◌<◌, ◌≤◌, sym, refl, ap, ◌∙◌, ⊎_elim, lt_of_lt_of_le, mod-lt, mod-eq_of_lt, add-mul, div-one, arith, pow_pos, pow_mono, pow-add, shr_lt}
+use Rattle.std.proofs.Common.{◌≡◌, ℕ, ◌+◌, ◌-◌, ◌*◌, ◌/◌, ◌%◌, ◌^◌, ◌<◌, ◌≤◌, sym, ap, ◌∙◌, ⊎_elim, lt_of_lt_of_le, mod-lt, mod-eq_of_lt, add-mul, div-one, arith, pow_pos, pow_mono, pow-add, shr_lt}
 use native.Mathlib.Nat.{mod_self, mul-mod_left, div-eq_of_lt, mod-one, add-mul-mod_self_right, add-mod-mod}
 use lib.Bits.{bit_and, bit_or, and_mask, or_shifted_r, or_self}
 use lib.Pow.{mod-mod-pow, mod-pow-add, split}

@@ -1,5 +1,5 @@
 -- What a coder without memory answers.
-use Rattle.std.proofs.Common.{◌≡◌, ℕ, Bool, List, Some, None, ap, ◌∙◌}
+use Rattle.std.proofs.Common.{◌≡◌, ℕ, Bool, List, Some, None, ap}
 use Rattle.forms.specs.Code.{Code, form, short, walk, form_of}
 use Rattle.forms.specs.Coding.{behind, encoded, word, dead, partial, told, decoded}
 use Rattle.forms.specs.Coders.{plain}

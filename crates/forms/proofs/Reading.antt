@@ -1,15 +1,14 @@
 -- What the coders read from the bits of a number, and the form that each writes.
-use Rattle.std.proofs.Common.{◌≡◌, ℕ, zero, suc, ◌+◌, ◌-◌, ◌*◌, ◌/◌, ◌%◌, ◌^◌, ◌<◌, ◌≤◌, Bool, true, false, cond, ltb, List, [], ◌∷◌, ◌++◌, length, Some, None, Option, sym, refl, ap, ◌∙◌, subst, append-nil, mod-lt, mod-eq_of_lt, arith, le-ltb, lt-ltb}
+use Rattle.std.proofs.Common.{◌≡◌, ℕ, ◌+◌, ◌-◌, ◌*◌, ◌/◌, ◌%◌, ◌^◌, ◌<◌, ◌≤◌, Bool, true, false, cond, ltb, List, [], ◌++◌, Some, None, Option, sym, refl, ap, ◌∙◌, subst, append-nil, mod-eq_of_lt, arith, le-ltb, lt-ltb}
 use mathlib.Core.Path.{subst⁻¹}
 use lib.Pow.{ones_lt, high, low}
 use Rattle.std.proofs.lemmas.Bool.{cond-true, cond-false}
-use Rattle.bits.specs.Bits.{bits, number}
+use Rattle.bits.specs.Bits.{bits}
 use Rattle.bits.proofs.Numbers.{length-bits, number-bits, bits-split}
-use Rattle.forms.specs.Code.{Code, ends, Means, Found, form, short, walk, form_of, field}
-use Rattle.forms.specs.Rules.{Rules}
+use Rattle.forms.specs.Code.{Code, ends, Means, form, short, walk, form_of, field}
 use Rattle.forms.specs.Coders.{minus, plus, null, constant, after_few, reduced}
 use Rattle.forms.proofs.Codes.{field-means, field-few, field-under, walk-form}
-use Rattle.forms.proofs.Rules.{form_of-is, form_of-over}
+use Rattle.forms.proofs.Rules.{form_of-is}
 use Rattle.forms.proofs.Coders.{means-ends, null-rules, constant-rules, reduced-rules, farther, few, plus-minus}
 
 -- the n lowest of a bits

@@ -1,12 +1,12 @@
 -- What the rules give, and what gives the rules.
-use Rattle.std.proofs.Common.{◌≡◌, ℕ, ◌+◌, ◌-◌, ◌^◌, ◌<◌, ◌≤◌, Bool, true, false, ◌⊎◌, List, [], ◌∷◌, ◌++◌, length, take, drop, replicate, Some, None, Option, sym, refl, ap, ◌∙◌, subst, inl, inr, ⊎_elim, append_assoc, append-nil, arith, length-append, length-drop, length-take}
+use Rattle.std.proofs.Common.{◌≡◌, ℕ, ◌+◌, ◌-◌, ◌^◌, ◌<◌, ◌≤◌, Bool, false, ◌⊎◌, List, [], ◌++◌, length, take, drop, replicate, Some, None, Option, sym, refl, ap, ◌∙◌, subst, inl, inr, ⊎_elim, append_assoc, append-nil, arith, length-append, length-drop, length-take}
 use mathlib.Core.Path.{subst⁻¹}
 use lib.ListN.{length-replicate}
-use Rattle.std.proofs.lemmas.List.{take-append-le, take-append-drop, take_at, take-take, drop-append-le}
+use Rattle.std.proofs.lemmas.List.{take-append-le, take-append-drop, take_at}
 use Rattle.std.proofs.lemmas.Bool.{cases_lt}
 use Rattle.bits.proofs.Files.{take_past}
 use Rattle.forms.specs.Code.{Code, Means, form_of, renamed, Within}
-use Rattle.forms.specs.Rules.{Meaning, Begins, ExactlyOne, Partial, Rules, Remaining}
+use Rattle.forms.specs.Rules.{Meaning, ExactlyOne, Partial, Rules, Remaining}
 use Rattle.forms.proofs.Codes as codes
 
 -- a code whose forms are within 64 bits keeps rule 1

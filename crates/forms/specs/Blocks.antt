@@ -1,6 +1,6 @@
 -- Blocks of words, and what tells two blocks apart.
 use Rattle.std.specs.Prelude.{◌≡◌, ℕ, Bool, List, [], ◌∷◌, ◌++◌, length, Some, None, Option, ◌≢◌}
-use Rattle.forms.specs.Code.{Code, Means, form_of}
+use Rattle.forms.specs.Code.{Means, form_of}
 use Rattle.forms.specs.Coding.{Coding}
 
 -- bs is the forms of the words, one after the other, from the memory m on

@@ -1,6 +1,6 @@
 -- The coders.
-use Rattle.std.specs.Prelude.{ℕ, ◌+◌, ◌-◌, ◌*◌, ◌/◌, ◌%◌, ◌^◌, Bool, true, false, cond, Some, None, Option, nat_lt}
-use Rattle.forms.specs.Code.{Code, ends, fork, field, renamed}
+use Rattle.std.specs.Prelude.{ℕ, ◌+◌, ◌-◌, ◌*◌, ◌/◌, ◌%◌, ◌^◌, Bool, true, false, cond, Some, None, nat_lt}
+use Rattle.forms.specs.Code.{Code, ends, field, renamed}
 use Rattle.forms.specs.Coding.{Coding}
 
 -- (x - p) mod 2 ^ w

@@ -1,5 +1,5 @@
 -- The rules of coders.
-use Rattle.std.specs.Prelude.{◌≡◌, ℕ, ◌^◌, ◌<◌, ◌≤◌, Bool, ◌⊎◌, List, [], ◌∷◌, ◌++◌, length, Some, None, Option}
+use Rattle.std.specs.Prelude.{◌≡◌, ℕ, ◌^◌, ◌<◌, ◌≤◌, Bool, ◌⊎◌, List, ◌++◌, length, Some, Option}
 
 -- Forms and what they mean: `S s o` says that the string s is a form, and that o is its word, or None where it is dead.
 abbrev pub Meaning : Type 1

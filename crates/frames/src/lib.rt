@@ -1,4 +1,6 @@
 // How many words some raw bytes are. Each channel gives its repeats in turn, frame after frame, so whole frames are counted by division.
+#![tactic(auto)]
+
 ghost use Rattle.std.specs.Prelude.{◌≡◌, ◌<◌, ◌≤◌, true, if◌then◌else◌, None};
 ghost use Rattle.layout.specs.Channels.{ruled};
 ghost use Rattle.layout.specs.Turns.{first, count_words};

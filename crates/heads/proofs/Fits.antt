@@ -1,8 +1,7 @@
 -- Whether a head fits, and what is then answered.
-use Rattle.std.proofs.Common.{◌≡◌, ℕ, ◌+◌, ◌*◌, ◌/◌, ◌<◌, ◌≤◌, Bool, true, false, cond, ◌&&◌, leb, List, length, is_some, Some, None, Option, sym, refl, ap, ◌∙◌, arith}
+use Rattle.std.proofs.Common.{◌≡◌, ℕ, ◌+◌, ◌*◌, ◌/◌, ◌<◌, ◌≤◌, Bool, true, false, cond, ◌&&◌, leb, List, length, is_some, Some, None, Option, refl, ap, ◌∙◌, arith}
 use Rattle.std.proofs.lemmas.Bool.Decides.{nat_tests}
 use Rattle.std.specs.Option.{option_map}
-use Rattle.bits.specs.Bits.{put_bits}
 use Rattle.layout.specs.Slim.{most_bytes, is_given}
 use Rattle.calls.specs.Parts.{Marks, name_bits, extra_bits}
 use Rattle.calls.specs.Calls.{name_fits, extra_fits}

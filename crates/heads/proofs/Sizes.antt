@@ -1,7 +1,7 @@
 -- The parts of a head, put one behind the other.
-use Rattle.std.proofs.Common.{◌≡◌, ℕ, ◌+◌, ◌*◌, ◌/◌, ◌≤◌, Bool, true, false, cond, leb, List, [], ◌∷◌, ◌++◌, length, Some, None, Option, sym, refl, ap, ◌∙◌, append_assoc, append-nil, arith, length-append}
+use Rattle.std.proofs.Common.{◌≡◌, ℕ, ◌+◌, ◌*◌, ◌≤◌, Bool, true, false, cond, leb, List, [], ◌++◌, length, Some, None, Option, sym, refl, ap, ◌∙◌, append_assoc, append-nil, arith, length-append}
 use Rattle.std.proofs.lemmas.Bool.{and_parts, leb-true}
-use Rattle.bits.specs.Bits.{bits, bits_of, put_bits, Bytes}
+use Rattle.bits.specs.Bits.{bits, bits_of, put_bits}
 use Rattle.bits.proofs.Numbers.{length-bits}
 use Rattle.bits.proofs.Files.{length-bits_of}
 use Rattle.layout.specs.Slim.{most_name, is_given}
@@ -9,7 +9,7 @@ use Rattle.calls.specs.Parts.{Marks, marks_byte, name_bits, extra_bits, head_bit
 use Rattle.calls.specs.Calls.{name_fits, extra_fits, zero_free}
 use Rattle.calls.proofs.Buffers.{put-put}
 use Rattle.calls.proofs.Heads.{name-bits, no_name, extra-bits, no_extra}
-use Rattle.calls.proofs.Chains.{head_length, head-length}
+use Rattle.calls.proofs.Chains.{head_length}
 use Rattle.heads.specs.Heads.{first_bits}
 
 -- ## Sizes

@@ -1,4 +1,6 @@
 // The head of a file: the bytes 53 4c, the stamp, the flags, and what is flagged.
+#![tactic(auto)]
+
 ghost use Rattle.std.specs.Prelude.{◌≡◌, ℕ, ◌+◌, ◌*◌, ◌/◌, ◌≤◌, true, length, if◌then◌else◌, Some, None};
 ghost use Rattle.std.specs.Option.{option_map};
 ghost use Rattle.bits.specs.Bits.{bits_of, put_bits};

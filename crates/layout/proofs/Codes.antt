@@ -1,15 +1,14 @@
 -- Each channel's coder keeps the rules.
-use Rattle.std.proofs.Common.{◌≡◌, ℕ, ◌+◌, ◌-◌, ◌*◌, ◌/◌, ◌%◌, ◌^◌, ◌<◌, ◌≤◌, Bool, true, false, cond, not, ◌&&◌, ◌||◌, eqb, ltb, leb, ◌⊎◌, sym, refl, ap, ◌∙◌, subst, inl, inr, arith}
+use Rattle.std.proofs.Common.{◌≡◌, ℕ, ◌%◌, ◌^◌, ◌<◌, ◌≤◌, Bool, true, false, cond, ◌&&◌, ◌||◌, eqb, ltb, leb, sym, refl, subst, inl, inr, arith}
 use Rattle.std.proofs.lemmas.Bool.{eqb-true, eqb-false, ltb-true, and_parts}
 use Rattle.std.proofs.lemmas.Bool.Decides.{nat_tests}
 use Rattle.format.specs.Lawful.{Lawful}
 use Rattle.forms.specs.Code.{Code, Means}
 use Rattle.forms.specs.Rules.{Rules}
-use Rattle.forms.specs.Coding.{Coding, Sound}
 use Rattle.forms.specs.Coders.{plain, null, constant, reduced, delta_if}
 use Rattle.forms.proofs.Coders.{null-rules, constant-rules, reduced-rules, turn-sound, delta_if-sound, within}
 use Rattle.layout.specs.Recording.{Channel}
-use Rattle.layout.specs.Channels.{width, suits, ruled, algorithm, pile}
+use Rattle.layout.specs.Channels.{width, suits, ruled, algorithm}
 use Rattle.layout.specs.Turns.{no_channel}
 use Rattle.layout.specs.Slim.{recording}
 use Rattle.layout.proofs.Parts.{SoundPile, Ruled, law-recording}

@@ -1,6 +1,6 @@
 -- The layout of a recording is of whole bytes.
-use Rattle.std.proofs.Common.{◌≡◌, ℕ, zero, suc, ◌+◌, ◌%◌, Bool, List, Some, None, Option, refl}
-use Rattle.format.specs.Format.{Format, Part, whole, ◌>>=◌, ◌∈◌, padding, choose, ahead, refuse}
+use Rattle.std.proofs.Common.{ℕ, zero, suc, Bool, List, Some, None, Option}
+use Rattle.format.specs.Format.{Format}
 use Rattle.format.proofs.Laws.{Ends, Keeps, ends-then, ends-first, ends_last, ends-padded, ends-refuse, ends-ahead, ends-choose, keeps-whole}
 use Rattle.layout.specs.Recording.{Section}
 use Rattle.layout.specs.Slim.{Closing, another, ended, Flags, Piece, counted, closed, body, piece, Body, behind, chain, most_sections, after_flags, recording}

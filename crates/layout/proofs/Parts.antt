@@ -1,19 +1,15 @@
 -- The laws of the parts of a slim file.
-use Rattle.std.proofs.Common.{◌≡◌, ℕ, zero, suc, ◌+◌, ◌-◌, ◌*◌, ◌/◌, ◌%◌, ◌^◌, ◌<◌, ◌≤◌, min, Bool, true, false, cond, not, ◌&&◌, ◌||◌, eqb, ltb, leb, ◌⊎◌, List, [], ◌∷◌, ◌++◌, length, get_or, Some, None, Option, sym, refl, ap, ◌∙◌, subst, ap₂, inl, inr, arith, ltb-false, ltb-true, le-ltb, lt-ltb, eqb-true, leb-true}
-use borrow.Author.Tests.{eqb-false}
-use Rattle.std.proofs.lemmas.Bool.{cond-true, cond-false}
+use Rattle.std.proofs.Common.{◌≡◌, ℕ, zero, suc, ◌+◌, ◌-◌, ◌^◌, ◌<◌, Bool, true, false, cond, eqb, ◌⊎◌, List, [], ◌∷◌, length, get_or, Some, None, Option, sym, refl, ap, ◌∙◌, inl, inr, arith, ltb-true, eqb-true}
 use Rattle.std.proofs.lemmas.Bool.Decides.{nat_tests}
-use Rattle.format.specs.Format.{Format, Part, field, whole, refuse, ◌>>=◌, ◌∈◌, padding, judged, choose, one, each, times, ahead, mapped}
+use Rattle.format.specs.Format.{Format}
 use Rattle.format.specs.Lawful.{Lawful}
-use Rattle.format.proofs.Laws.{law-whole, law-refuse, law-field, law-then, law-after, law-padding, law-judged, law-choose, law-one, law-each, law-times, law-ahead, law-mapped, then-part, then-rest, whole_is, times-length, times-each, each-length, field-valid, chosen, one-valid, judged-valid, ahead-valid, refused}
-use Rattle.forms.specs.Coding.{Coding, Sound}
+use Rattle.format.proofs.Laws.{law-whole, law-refuse, law-field, law-then, law-after, law-padding, law-judged, law-choose, law-one, law-each, law-times, law-ahead, then-part, then-rest, whole_is, times-length, times-each, each-length, field-valid, chosen, one-valid, judged-valid, ahead-valid, refused}
+use Rattle.forms.specs.Coding.{Sound}
 use Rattle.format.proofs.Word.{law-word}
-use Rattle.forms.specs.Code.{Means}
-use Rattle.forms.specs.Rules.{Rules}
 use Rattle.layout.specs.Recording.{Channel, Section, Recording}
 use Rattle.layout.specs.Channels.{width, ruled, pile, code_at}
-use Rattle.layout.specs.Turns.{no_channel, Spot, first, channel_of, Turn, memory_of, next_turn, first_turn, raw_bytes, raw_size, count_words, words_from}
-use Rattle.layout.specs.Slim.{any, positive, byte, head_of, tail_of, name_bytes, block, extra_bytes, given, is_given, flagged, bit, added, channel, Closing, another, ended, leftovers_of, end_tag, tag, is_tag, goes_on, leftover, closing, Flags, Piece, recorded, counted, closed, body, piece, Body, piece_of, leading, rest, behind, chain, raw_total, flag, flag_byte, after_flags, recording, most_sections, most_name}
+use Rattle.layout.specs.Turns.{no_channel, first, channel_of, Turn, memory_of, raw_bytes, raw_size, words_from}
+use Rattle.layout.specs.Slim.{positive, byte, head_of, tail_of, name_bytes, block, extra_bytes, given, is_given, flagged, bit, added, channel, Closing, another, ended, leftovers_of, end_tag, tag, is_tag, leftover, closing, Flags, Piece, recorded, counted, closed, body, piece, Body, piece_of, leading, rest, behind, chain, flag, flag_byte, after_flags, recording, most_sections, most_name}
 use Rattle.layout.proofs.Counting.{counted-bytes}
 
 law-byte : Lawful byte

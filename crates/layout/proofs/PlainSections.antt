@@ -8,7 +8,7 @@ use Rattle.format.proofs.Laws.{then-part, then-rest, whole_is, chosen, field-val
 use Rattle.layout.specs.Recording.{Channel, Section}
 use Rattle.layout.specs.Channels.{ruled, code_at}
 use Rattle.layout.specs.Turns.{Spot, first, channel_of, Turn, memory_of, next_turn, first_turn, raw_bytes, raw_size, words_from}
-use Rattle.layout.specs.Slim.{positive, most_bytes, most_channels, channel, Closing, another, goes_on, closing, Flags, Piece, recorded, channel_count, counted, closed, body, piece, Body, no_section, leading, behind, chain, raw_total}
+use Rattle.layout.specs.Slim.{positive, most_bytes, most_channels, channel, Closing, another, goes_on, Flags, Piece, recorded, channel_count, counted, closed, body, piece, Body, no_section, leading, behind, chain, raw_total}
 use Rattle.layout.specs.Plain.{Every, Formed, SectionFits}
 use Rattle.layout.proofs.Building.{valid-judged, valid-ahead, valid-padding, times-every, every-times, then-within, ahead_within, choose-within}
 use Rattle.layout.proofs.Spots.{word_some, inside-counted, raw-none, raw-some}

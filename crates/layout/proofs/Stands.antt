@@ -1,16 +1,15 @@
 -- What is claimed of slim files holds.
-use Rattle.std.proofs.Common.{◌≡◌, ℕ, zero, suc, ◌+◌, ◌*◌, ◌/◌, ◌%◌, ◌<◌, ◌≤◌, Bool, true, false, cond, eqb, ltb, ◌⊎◌, List, [], ◌∷◌, ◌++◌, length, get_or, sym, refl, ap, ◌∙◌, subst, inl, inr, zero-le, zero-add, arith, length-append, ltb-false, le-ltb, eq-eqb, eqb-true}
+use Rattle.std.proofs.Common.{◌≡◌, ℕ, ◌*◌, ◌%◌, ◌≤◌, Bool, true, false, cond, eqb, ltb, List, [], ◌++◌, length, sym, refl, ap, ◌∙◌, zero-le, zero-add, arith, length-append, ltb-false, le-ltb, eq-eqb, eqb-true}
 use Rattle.std.proofs.lemmas.List.{nil_from_length}
 use Rattle.std.proofs.lemmas.Bool.{cond-true, cond-false}
-use Rattle.bits.specs.Bits.{bits_of, bytes_of, Bytes}
-use Rattle.bits.proofs.Files.{length-bits_of, bits_of-append}
-use Rattle.format.specs.Cells.{size, Cell, bit, pad, filled, Stands}
-use Rattle.format.specs.Format.{Outcome, got, fault, next, Format}
+use Rattle.bits.specs.Bits.{bits_of}
+use Rattle.bits.proofs.Files.{length-bits_of}
+use Rattle.format.specs.Cells.{Stands}
+use Rattle.format.specs.Format.{got, fault, next}
 use Rattle.layout.specs.Recording.{Recording}
 use Rattle.layout.specs.Slim.{recording, read}
 use Rattle.layout.specs.Claims.{layout, file, Valid, Gives, PadsApart, FormatStands}
 use Rattle.format.proofs.Filling.{stand-same, same-stands, file-fits, file-length, stands-more}
-use Rattle.format.specs.Lawful.{Lawful}
 use Rattle.format.proofs.Laws.{next-got, next-on, cond-got, got-got, faulted}
 use Rattle.layout.proofs.Codes.{law_slim as law-recording}
 use Rattle.layout.proofs.Ends.{ends-recording}

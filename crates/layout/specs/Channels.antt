@@ -1,5 +1,5 @@
 -- A channel's settings: the rules for them, and the coder that they name.
-use Rattle.std.specs.Prelude.{ℕ, ◌%◌, ◌^◌, Bool, true, false, cond, not, ◌&&◌, ◌||◌, ◌==◌, nat_le, nat_lt}
+use Rattle.std.specs.Prelude.{ℕ, ◌%◌, ◌^◌, Bool, false, cond, ◌&&◌, ◌||◌, ◌==◌, nat_le, nat_lt}
 use Rattle.forms.specs.Code.{Code}
 use Rattle.forms.specs.Coding.{Coding}
 use Rattle.forms.specs.Coders.{plain, null, constant, reduced, turn, delta_if}

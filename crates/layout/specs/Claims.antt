@@ -1,8 +1,8 @@
 -- What is claimed of slim files.
-use Rattle.std.specs.Prelude.{◌≡◌, ℕ, ◌+◌, ◌*◌, ◌/◌, ◌<◌, ◌≤◌, Bool, false, ◌⊎◌, List, [], ◌∷◌, ◌++◌, length, slice_index_or}
+use Rattle.std.specs.Prelude.{◌≡◌, ℕ, ◌*◌, ◌<◌, ◌≤◌, false, ◌⊎◌, List, [], ◌++◌, length, slice_index_or}
 use Rattle.bits.specs.Bits.{bits_of, bytes_of}
-use Rattle.format.specs.Cells.{Cell, bit, pad, filled}
-use Rattle.format.specs.Format.{Outcome, got, Format}
+use Rattle.format.specs.Cells.{Cell, pad, filled}
+use Rattle.format.specs.Format.{got}
 use Rattle.layout.specs.Recording.{Recording}
 use Rattle.layout.specs.Slim.{most_bytes, recording, read}
 

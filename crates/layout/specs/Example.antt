@@ -1,7 +1,7 @@
 -- A worked example: a recording and its file.
 use Rattle.std.specs.Prelude.{◌≡◌, ℕ, true, false, List, [], ◌∷◌, None}
 use Rattle.format.specs.Format.{got}
-use Rattle.layout.specs.Recording.{Channel, Section, Recording}
+use Rattle.layout.specs.Recording.{Channel, Recording}
 use Rattle.layout.specs.Slim.{read}
 use Rattle.layout.specs.Claims.{file}
 

@@ -1,4 +1,6 @@
 // The slim file as one description of fields, and what holds of it: see specs/.
+#![tactic(auto)]
+
 ghost use Rattle.layout.specs.Claims.{FormatStands};
 ghost use Rattle.layout.specs.Example.{ExampleStands};
 ghost use Rattle.layout.specs.Plain.{ValidityIsPlain};

@@ -1,4 +1,5 @@
 // The limits of a slim file.
+#![tactic(auto)]
 
 // The most bytes of a file.
 pub const MOST_BYTES: usize = 16_777_216;

@@ -1,5 +1,5 @@
 -- Settings that keep the rules, under delta.
-use Rattle.std.proofs.Common.{◌≡◌, ℕ, ◌^◌, Bool, true, false, cond, eqb, ltb, leb, Some, None, Option, sym, refl, ap, ◌∙◌, arith}
+use Rattle.std.proofs.Common.{◌≡◌, ℕ, ◌^◌, Bool, true, false, cond, eqb, ltb, leb, Some, None, Option, sym, refl, ap, ◌∙◌}
 use Rattle.forms.proofs.Codes.{none-some, some_same}
 use Rattle.logger.specs.Host.{ruled}
 

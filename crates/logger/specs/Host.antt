@@ -1,5 +1,5 @@
 -- What the calls for C hosts answer, and what the output then holds.
-use Rattle.std.specs.Prelude.{ℕ, ◌-◌, ◌^◌, Bool, true, false, cond, ◌&&◌, List, ℤ, pos, negsuc, ◌==◌, nat_le, nat_lt}
+use Rattle.std.specs.Prelude.{ℕ, ◌-◌, ◌^◌, cond, List, ℤ, pos, negsuc, ◌==◌, nat_le, nat_lt}
 use Rattle.forms.specs.Coding.{Coding}
 use Rattle.forms.specs.Coders as coders
 use Rattle.faults.specs.Faults.{Answer, gives, fault}

@@ -1,4 +1,6 @@
-// The block calls for host programs in C: one reduced binary channel of 16-bit words, with or without delta.
+// The block calls for host programs: one reduced binary channel of 16-bit words, with or without delta. The crate logger_c exports them to C.
+#![tactic(auto)]
+
 ghost use Rattle.std.specs.Prelude.{◌≡◌, ℕ, ◌≤◌, length, IfOk};
 ghost use Rattle.faults.specs.Faults.{answered};
 ghost use Rattle.blocks.specs.Blocks.{bytes_per, pack_answer, pack_bytes, read_answer, read_bytes};
@@ -37,8 +39,7 @@ fn read_with<C: Coder>(coder: &C, block: &[u8], count: usize, out: &mut [u8]) ->
 
 // Packs raw 16-bit words, low byte first, and answers the number of bits of the block.
 // `delta` is 0 or 1, `narrow` the number of bits of a plain form, from 1 to 16, and `pedestal` a 16-bit word; other settings are fault 6.
-#[unsafe(no_mangle)]
-pub extern "C" fn slim_pack(
+pub fn slim_pack(
     delta: u32,
     narrow: u32,
     pedestal: u32,
@@ -59,8 +60,7 @@ pub extern "C" fn slim_pack(
 }
 
 // Reads so many 16-bit words from a block, writes them low byte first, and answers their number.
-#[unsafe(no_mangle)]
-pub extern "C" fn slim_read(
+pub fn slim_read(
     delta: u32,
     narrow: u32,
     pedestal: u32,

@@ -1,6 +1,5 @@
 -- Checking stands, since the format does.
-use Rattle.std.proofs.Common.{◌≡◌, ℕ, List, [], ◌++◌, sym, refl, ap, ◌∙◌, arith}
-use Rattle.faults.specs.Faults as faults
+use Rattle.std.proofs.Common.{◌≡◌, ℕ, List, [], ◌++◌, sym, refl, ap, arith}
 use Rattle.faults.specs.Faults.{Answer, gives}
 use Rattle.format.specs.Format.{Outcome, got, fault}
 use Rattle.layout.specs.Recording.{Recording}
@@ -8,7 +7,7 @@ use Rattle.layout.specs.Slim.{read}
 use Rattle.layout.specs.Claims.{Valid, Gives, PadsApart, file}
 use Rattle.layout.proofs.Stands.{format_stands}
 use Rattle.reader.specs.declared.totals.Totals.{Totals}
-use Rattle.reader.specs.Counts.{recording_totals, answer_totals, check_answer}
+use Rattle.reader.specs.Counts.{recording_totals, answer_totals}
 use Rattle.reader.specs.Claims.{Accepts, CheckingStands}
 
 gives_apart : {t u : Totals} → ◌≡◌ {A = Answer Totals} (gives t) (gives u) → t ≡ u

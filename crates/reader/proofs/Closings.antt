@@ -1,10 +1,10 @@
 -- What closes a section, as it is taken.
-use Rattle.std.proofs.Common.{◌≡◌, ℕ, ◌+◌, ◌-◌, ◌*◌, ◌/◌, ◌%◌, ◌^◌, ◌<◌, ◌≤◌, min, Bool, true, false, cond, not, ◌||◌, leb, List, length, Option, sym, refl, ap, ◌∙◌, arith, le-leb}
+use Rattle.std.proofs.Common.{◌≡◌, ℕ, ◌+◌, ◌-◌, ◌*◌, ◌/◌, ◌%◌, ◌^◌, ◌<◌, ◌≤◌, min, Bool, true, false, cond, not, ◌||◌, List, length, Option, sym, refl, ap, ◌∙◌, arith, le-leb}
 use borrow.Author.Tests.{lt-leb}
 use Rattle.bits.specs.Bits.{bits_of}
 use Rattle.bits.proofs.Files.{length-bits_of}
 use Rattle.format.specs.Cells.{File, size}
-use Rattle.format.specs.Format.{Outcome, got, fault, Format, judged, gap, padding}
+use Rattle.format.specs.Format.{got, fault, Format, judged, gap, padding}
 use Rattle.layout.specs.Slim as slim
 use Rattle.layout.specs.Slim.{goes_on, closing}
 use Rattle.reading.specs.declared.closing.Closing.{Closing}

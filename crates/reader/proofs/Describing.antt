@@ -1,5 +1,5 @@
 -- A file that was accepted is read again, and the section that is described is found.
-use Rattle.std.proofs.Common.{◌≡◌, ℕ, ◌+◌, ◌*◌, ◌<◌, ◌≤◌, Bool, true, false, cond, eqb, ltb, List, [], ◌∷◌, ◌++◌, map, length, take, drop, sym, refl, ap, ◌∙◌, subst, arith, length-take}
+use Rattle.std.proofs.Common.{◌≡◌, ℕ, ◌*◌, ◌<◌, ◌≤◌, Bool, true, false, cond, eqb, ltb, List, [], ◌∷◌, ◌++◌, map, length, take, drop, sym, refl, ap, ◌∙◌, subst, arith, length-take}
 use lib.ListN.{length-map}
 use Rattle.std.proofs.lemmas.List.{take-append-le, take_all}
 use Rattle.std.proofs.lemmas.Bool.{lt-ltb, le-ltb, ltb-false, lt-leb}
@@ -7,7 +7,7 @@ use Rattle.bits.specs.Bits.{bits_of}
 use Rattle.faults.specs.Faults as faults
 use Rattle.faults.specs.Faults.{Answer, gives}
 use Rattle.format.specs.Cells.{File}
-use Rattle.format.specs.Format.{Outcome, got, fault, next, Format, whole, ◌>>=◌, judged}
+use Rattle.format.specs.Format.{Outcome, got, fault, next, whole, ◌>>=◌, judged}
 use Rattle.format.proofs.Laws.{faulted, got-got, next-got, cond-got}
 use Rattle.layout.specs.Recording as recordings
 use Rattle.layout.specs.Recording.{Section, Recording}

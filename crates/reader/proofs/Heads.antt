@@ -1,14 +1,14 @@
 -- The fields of a section's head, as they are taken.
-use Rattle.std.proofs.Common.{◌≡◌, ℕ, zero, suc, ◌+◌, ◌-◌, ◌<◌, ◌≤◌, Bool, true, false, cond, ◌&&◌, eqb, ltb, leb, ◌⊎◌, List, Some, None, Option, sym, refl, ap, ◌∙◌, inl, inr, arith, le-leb, leb-false, leb-true}
+use Rattle.std.proofs.Common.{◌≡◌, ℕ, ◌+◌, ◌<◌, ◌≤◌, Bool, true, false, ◌&&◌, leb, ◌⊎◌, List, Some, None, Option, refl, ap, inl, inr, le-leb}
 use borrow.Author.Tests.{lt-leb}
-use Rattle.std.proofs.lemmas.Bool.{lt-ltb, le-ltb}
+use Rattle.std.proofs.lemmas.Bool.{lt-ltb}
 use Rattle.format.specs.Cells.{File}
-use Rattle.format.specs.Format.{Outcome, got, fault, next, Format, field, whole, ◌>>=◌, ◌∈◌, judged, choose, times}
+use Rattle.format.specs.Format.{Outcome, got, fault, field, whole, times}
 use Rattle.layout.specs.Recording.{Channel}
 use Rattle.layout.specs.Slim.{Flags, any, positive, most_bytes, most_channels, channel_count, recorded, channel}
 use Rattle.calls.specs.Parts.{described}
 use Rattle.reading.proofs.Steps.{then-on, then-not, whole-on, choose-on, choose-off, judged-on, judged-off, judged-not, field-on, field_off, field-not}
-use Rattle.reader.specs.Sections.{Head, raw_field, pointer_field, head}
+use Rattle.reader.specs.Sections.{raw_field, pointer_field, head}
 
 -- ## The raw size
 

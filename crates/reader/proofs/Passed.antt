@@ -1,9 +1,9 @@
 -- Sections that are read one behind the other.
-use Rattle.std.proofs.Common.{◌≡◌, ℕ, zero, suc, ◌+◌, ◌-◌, ◌<◌, ◌≤◌, Bool, true, false, cond, ltb, leb, List, [], ◌∷◌, length, drop, sym, refl, ap, ◌∙◌, arith}
+use Rattle.std.proofs.Common.{◌≡◌, ℕ, suc, ◌+◌, ◌-◌, ◌<◌, ◌≤◌, Bool, true, false, ltb, List, [], ◌∷◌, length, drop, sym, refl, ap, ◌∙◌, arith}
 use Rattle.std.proofs.lemmas.Bool.{lt-ltb, le-ltb, ltb-true, ltb-false}
 use Rattle.bits.proofs.Files.{length-bytes}
 use Rattle.format.specs.Cells.{File}
-use Rattle.format.specs.Format.{Outcome, got, fault, next, Format, whole, refuse, ◌>>=◌, ◌∈◌}
+use Rattle.format.specs.Format.{Outcome, got, fault, next, Format, whole, refuse, ◌>>=◌}
 use Rattle.format.proofs.Laws.{faulted}
 use Rattle.layout.specs.Recording.{Section}
 use Rattle.layout.specs.Turns.{raw_size}
@@ -12,7 +12,7 @@ use Rattle.reading.specs.declared.block.Block.{Block}
 use Rattle.reading.specs.declared.closing.Closing as code
 use Rattle.reading.specs.declared.closing.Closing.TheVariants.{Another, Ended}
 use Rattle.reading.specs.Blocks.{bytes_at, closing_of}
-use Rattle.reading.proofs.Steps.{next-on, next-not, then-on, then-not, whole-on}
+use Rattle.reading.proofs.Steps.{next-on, next-not, then-on, then-not}
 use Rattle.reader.specs.Sections.{Head, head, rest}
 use Rattle.reader.specs.Counts.{seen, outline, words_total, body_totals}
 use Rattle.reader.specs.declared.totals.Totals.{Totals}

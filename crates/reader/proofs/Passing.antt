@@ -1,13 +1,13 @@
 -- What follows the head of a section, as it is read.
-use Rattle.std.proofs.Common.{◌≡◌, ℕ, zero, suc, ◌+◌, ◌/◌, Bool, true, false, cond, not, ◌&&◌, ◌||◌, leb, List, [], ◌∷◌, length, Some, None, Option, sym, refl, ap, ◌∙◌, le-leb}
+use Rattle.std.proofs.Common.{◌≡◌, ℕ, zero, suc, ◌/◌, Bool, true, false, cond, leb, List, ◌∷◌, length, Some, None, Option, sym, refl, ap, ◌∙◌}
 use Rattle.bits.specs.Bits.{bits_of}
 use Rattle.format.specs.Cells.{File}
-use Rattle.format.specs.Format.{Outcome, got, fault, next, Format, whole, refuse, ◌>>=◌, ◌∈◌, padding, judged, each_read, each}
+use Rattle.format.specs.Format.{Outcome, got, fault, next, Format, refuse, padding, each_read, each}
 use Rattle.format.proofs.Laws.{faulted, got-got, next-got}
 use Rattle.layout.specs.Recording as recordings
 use Rattle.layout.specs.Recording.{Section}
 use Rattle.layout.specs.Turns.{first, first_turn, raw_bytes, count_words, words_from}
-use Rattle.layout.specs.Slim.{Piece, Closing, goes_on, counted, closed, closing}
+use Rattle.layout.specs.Slim.{Piece, Closing, goes_on, counted, closed}
 use Rattle.layout.proofs.Counting.{counted-bytes}
 use Rattle.frames.specs.Frames.{countable}
 use Rattle.words.specs.Words.{places, readable, pass_answer}

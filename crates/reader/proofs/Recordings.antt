@@ -1,22 +1,22 @@
 -- A file is read in two stages: its head, and what follows the head.
-use Rattle.std.proofs.Common.{◌≡◌, ℕ, ◌+◌, ◌*◌, ◌<◌, ◌≤◌, Bool, true, false, cond, eqb, ltb, leb, List, length, IsErrAnd, Some, None, Ok, Err, Option, Result, sym, refl, ap, ◌∙◌, arith}
+use Rattle.std.proofs.Common.{◌≡◌, ℕ, ◌+◌, ◌*◌, ◌<◌, ◌≤◌, Bool, true, false, cond, eqb, ltb, leb, List, length, IsErrAnd, Some, None, Ok, Err, Option, Result, sym, refl, ap, ◌∙◌}
 use Rattle.std.proofs.lemmas.Bool.{lt-ltb, le-ltb, eq-eqb, ne_eqb}
 use Rattle.bits.specs.Bits.{bits_of}
 use Rattle.faults.specs.Faults as faults
 use Rattle.faults.specs.Faults.{Answer, gives, answered, number_of}
 use Rattle.faults.specs.declared.kind.Fault.{Fault}
 use Rattle.format.specs.Cells.{File, size, number}
-use Rattle.format.specs.Format.{Outcome, got, fault, next, Format, field, whole, ◌>>=◌, ◌∈◌, judged, choose, ahead}
+use Rattle.format.specs.Format.{Outcome, got, fault, next, Format, field, whole, ◌>>=◌, judged, choose, ahead}
 use Rattle.layout.specs.Recording.{Recording}
-use Rattle.layout.specs.Slim.{any, most_bytes, most_name, most_sections, flag, flagged, name_bytes, extra_bytes, raw_total, Body, chain, after_flags, recording, read}
+use Rattle.layout.specs.Slim.{any, most_bytes, most_name, flag, flagged, name_bytes, extra_bytes, raw_total, Body, chain, after_flags, recording, read}
 use Rattle.reading.specs.Heads as heads
 use Rattle.reading.specs.Heads.{size_field}
 use Rattle.reading.proofs.Steps.{next-on, next-not, then-on, then-not, whole-on, judged-on, judged-off, judged-not}
 use Rattle.reader.specs.declared.totals.Totals.{Totals}
 use Rattle.reader.specs.Sections.{agrees}
 use Rattle.reader.specs.Files.{section_flags, recording_of, after_head}
-use Rattle.reader.specs.Counts.{seen, body_totals, recording_totals, answer_totals, check_answer}
-use Rattle.reader.proofs.Stages.{stages, next-same}
+use Rattle.reader.specs.Counts.{seen, body_totals, answer_totals, check_answer}
+use Rattle.reader.proofs.Stages.{stages}
 use Rattle.reader.proofs.Sound.{seen_back}
 use Rattle.reader.proofs.Passed.{unseen}
 

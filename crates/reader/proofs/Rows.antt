@@ -1,9 +1,9 @@
 -- Rows that are read one after the other into a table.
-use Rattle.std.proofs.Common.{◌≡◌, ℕ, zero, suc, ◌+◌, ◌-◌, ◌<◌, ◌≤◌, Bool, List, [], ◌∷◌, ◌++◌, map, length, take, set, IsErrAnd, Ok, Err, Result, sym, refl, ap, ◌∙◌, arith}
+use Rattle.std.proofs.Common.{◌≡◌, ℕ, ◌+◌, ◌-◌, ◌<◌, Bool, List, [], ◌∷◌, ◌++◌, map, length, take, set, IsErrAnd, Ok, Err, Result, sym, ap, ◌∙◌, arith}
 use Rattle.std.proofs.lemmas.List.{map-append, take_more_set}
 use Rattle.faults.specs.declared.kind.Fault.{Fault}
 use Rattle.format.specs.Cells.{File}
-use Rattle.format.specs.Format.{Outcome, got, fault, Format, times, each}
+use Rattle.format.specs.Format.{Outcome, got, fault, times}
 use Rattle.format.proofs.Loops.{before, left, left-start, left-more, left-fault, left_end}
 use Rattle.layout.specs.Recording as recordings
 use Rattle.layout.specs.Slim.{channel}

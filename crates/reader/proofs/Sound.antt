@@ -1,19 +1,19 @@
 -- What is known of sections that were read.
-use Rattle.std.proofs.Common.{◌≡◌, ℕ, zero, suc, ◌+◌, ◌<◌, ◌≤◌, Bool, true, false, cond, ◌&&◌, ◌||◌, eqb, ltb, leb, List, [], ◌∷◌, length, Some, None, Option, sym, refl, ap, ◌∙◌, arith, leb-true}
+use Rattle.std.proofs.Common.{◌≡◌, ℕ, zero, suc, ◌+◌, ◌≤◌, Bool, true, false, cond, ◌&&◌, ltb, leb, List, ◌∷◌, length, Some, None, Option, sym, refl, ap, ◌∙◌, arith, leb-true}
 use Rattle.format.specs.Cells.{File, size, number}
-use Rattle.format.specs.Format.{Outcome, got, fault, next, Format, Part, field, whole, refuse, ◌>>=◌, ◌∈◌, padding, judged, choose, each_read, each, times}
+use Rattle.format.specs.Format.{Outcome, got, fault, next, Format, Part, field, whole, refuse, ◌>>=◌, judged, choose, each_read, each, times}
 use Rattle.format.proofs.Laws.{faulted, got-got, next-got, cond-got}
-use Rattle.layout.specs.Recording.{Channel, Section}
+use Rattle.layout.specs.Recording.{Channel}
 use Rattle.layout.specs.Channels.{ruled}
 use Rattle.layout.specs.Turns.{first, count_words, raw_bytes, raw_size}
-use Rattle.layout.specs.Slim.{Flags, Piece, Closing, positive, most_bytes, most_channels, channel, channel_count, recorded, counted, closed, piece}
+use Rattle.layout.specs.Slim.{Flags, Piece, positive, most_bytes, most_channels, channel, recorded, counted, closed, piece}
 use Rattle.calls.specs.Calls.{describable}
 use Rattle.calls.specs.Parts.{described}
 use Rattle.frames.specs.Frames.{countable}
 use Rattle.frames.proofs.Laws.{at-most-raw}
 use Rattle.layout.proofs.Counting.{counted-bytes}
 use Rattle.reader.specs.Sections.{Head, raw_field, head, rest}
-use Rattle.reader.specs.Counts.{seen, outline}
+use Rattle.reader.specs.Counts.{seen}
 use Rattle.reader.proofs.Stages.{section-stages}
 use Rattle.reader.proofs.Passing.{each-many, words-many}
 

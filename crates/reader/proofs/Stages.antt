@@ -1,12 +1,12 @@
 -- A section is read in two stages: its head, and what follows the head.
-use Rattle.std.proofs.Common.{◌≡◌, ℕ, ◌+◌, ◌/◌, Bool, true, false, cond, eqb, leb, List, Some, None, Option, sym, refl, ap, ◌∙◌}
+use Rattle.std.proofs.Common.{◌≡◌, ℕ, ◌+◌, ◌/◌, Bool, true, false, cond, leb, List, Some, None, Option, sym, refl, ◌∙◌}
 use Rattle.format.specs.Cells.{File, size, number}
-use Rattle.format.specs.Format.{Outcome, got, fault, next, Format, field, whole, ◌>>=◌, ◌∈◌, judged, choose, ahead, times}
+use Rattle.format.specs.Format.{Outcome, got, fault, next, field, whole, ◌>>=◌, judged, choose, ahead, times}
 use Rattle.layout.specs.Recording.{Channel}
 use Rattle.layout.specs.Slim.{Flags, Piece, goes_on, body, piece, channel_count, counted, closed, recorded, channel}
 use Rattle.layout.specs.Turns.{first, count_words}
 use Rattle.calls.specs.Parts.{described}
-use Rattle.reader.specs.Sections.{Head, raw_field, pointer_field, head, agrees, rest}
+use Rattle.reader.specs.Sections.{raw_field, pointer_field, head, agrees, rest}
 
 -- two stages as one
 pub stages : {A B C : Type 0} (o : Outcome A) (h : A → ℕ → ℕ → Outcome B) (k : B → ℕ → ℕ → Outcome C) (k' : A → ℕ → ℕ → Outcome C) →

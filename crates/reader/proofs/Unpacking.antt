@@ -5,7 +5,7 @@ use Rattle.std.proofs.lemmas.List.{take_at}
 use Rattle.bits.specs.Bits.{bits_of}
 use Rattle.faults.specs.Faults as faults
 use Rattle.faults.specs.Faults.{Answer, gives}
-use Rattle.format.specs.Format.{Outcome, got, fault, next, Format, whole, ◌>>=◌, judged}
+use Rattle.format.specs.Format.{Outcome, got, fault, next, whole, ◌>>=◌, judged}
 use Rattle.format.proofs.Laws.{faulted, got-got, next-got, cond-got}
 use Rattle.layout.specs.Recording.{Section, Recording}
 use Rattle.layout.specs.Turns.{first}

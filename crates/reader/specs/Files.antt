@@ -1,5 +1,4 @@
 -- A file as it is read: its head, and what follows the head.
-use Rattle.std.specs.Prelude.{Bool}
 use Rattle.format.specs.Format.{Format, whole, ◌>>=◌, ◌∈◌, judged}
 use Rattle.layout.specs.Recording.{Recording}
 use Rattle.layout.specs.Slim as slim

@@ -1,4 +1,6 @@
 // Reading slim files.
+#![tactic(auto)]
+
 pub mod check;
 pub mod describe;
 mod ends;

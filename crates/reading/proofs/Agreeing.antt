@@ -5,7 +5,7 @@ use Rattle.bits.specs.Bits.{bits_of}
 use Rattle.faults.specs.Faults.{gives}
 use Rattle.faults.specs.Faults as faults
 use Rattle.format.specs.Cells.{File, size, number}
-use Rattle.format.specs.Format.{Outcome, got, fault, Format, Part, field, whole, ◌>>=◌, ◌∈◌, choose, ahead}
+use Rattle.format.specs.Format.{Outcome, got, fault, Format, Part, field, whole, ◌>>=◌, choose, ahead}
 use Rattle.format.proofs.Laws.{faulted, got-got, cond-got, next-got}
 use Rattle.layout.specs.Recording.{Recording}
 use Rattle.layout.specs.Slim.{most_bytes, most_name, any, is_given, Body, flagged, name_bytes, extra_bytes, raw_total, flag, flag_byte, after_flags, recording, read}

@@ -1,11 +1,11 @@
 -- Bytes that are one field.
-use Rattle.std.proofs.Common.{◌≡◌, ℕ, zero, suc, ◌+◌, ◌-◌, ◌*◌, ◌<◌, ◌≤◌, Bool, true, false, leb, List, [], ◌∷◌, take, drop, refl, ap, ◌∙◌, add-zero, arith, le-leb, leb-false, leb-true}
+use Rattle.std.proofs.Common.{◌≡◌, ℕ, zero, suc, ◌+◌, ◌*◌, ◌<◌, ◌≤◌, Bool, true, false, leb, List, [], ◌∷◌, take, drop, refl, ap, ◌∙◌, add-zero, arith, le-leb, leb-false, leb-true}
 use borrow.Author.Tests.{lt-leb}
 use Rattle.std.proofs.lemmas.List.{drop-drop}
 use Rattle.bits.specs.Bits as strings
 use Rattle.bits.specs.Bits.{bytes}
 use Rattle.format.specs.Cells.{File, size, number}
-use Rattle.format.specs.Format.{Outcome, got, fault, next, once, Format, field, one, each, each_read, times}
+use Rattle.format.specs.Format.{Outcome, got, fault, next, once, field, one, each, each_read, times}
 use Rattle.layout.specs.Slim.{byte, block}
 use Rattle.reading.proofs.Steps.{next-on, next-not}
 

@@ -3,7 +3,7 @@ use Rattle.std.proofs.Common.{◌≡◌, ℕ, ◌<◌, Bool, false, List, [], re
 use Rattle.std.proofs.lemmas.Bool.{lt-ltb, eq-eqb, ne_eqb}
 use Rattle.bits.specs.Bits.{bytes}
 use Rattle.format.specs.Cells.{File}
-use Rattle.format.specs.Format.{Outcome, got, fault, Format, field, ◌>>=◌, ◌∈◌}
+use Rattle.format.specs.Format.{Outcome, got, fault, field}
 use Rattle.layout.specs.Slim.{any, positive, block, Closing, another, ended, is_tag, leftover, closing}
 use Rattle.reading.proofs.Steps.{then-on, then-not, whole-on, choose-on, choose-off, field-on, field_off, field-not}
 

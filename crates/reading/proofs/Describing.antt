@@ -3,7 +3,7 @@ use Rattle.std.proofs.Common.{◌≡◌, ℕ, suc, ◌<◌, Bool, true, false, c
 use Rattle.std.proofs.lemmas.Bool.{lt-ltb, le-ltb, eq-eqb, ne_eqb}
 use Rattle.faults.specs.Faults as faults
 use Rattle.format.specs.Cells.{File}
-use Rattle.format.specs.Format.{Outcome, got, fault, next, Format, field, whole, ◌>>=◌, ◌∈◌, judged, choose}
+use Rattle.format.specs.Format.{Outcome, got, fault, next, Format, field, whole, ◌>>=◌, judged, choose}
 use Rattle.layout.specs.Recording.{Channel}
 use Rattle.layout.specs.Channels.{width, ruled}
 use Rattle.layout.specs.Slim.{any, positive, added, channel}

@@ -2,7 +2,7 @@
 use Rattle.std.proofs.Common.{◌≡◌, ℕ, ◌%◌, ◌<◌, ◌≤◌, Bool, true, false, eqb, ltb, List, Some, None, Option, sym, ap, ◌∙◌, div-one, arith}
 use Rattle.std.proofs.lemmas.Bool.{lt-ltb, le-ltb, eq-eqb, ne_eqb}
 use Rattle.format.specs.Cells.{File}
-use Rattle.format.specs.Format.{Outcome, got, fault, Format, field, ◌>>=◌, ◌∈◌}
+use Rattle.format.specs.Format.{Outcome, got, fault, Format, field}
 use Rattle.layout.specs.Slim.{any, flag, flagged, name_bytes, extra_bytes}
 use Rattle.reading.specs.declared.part.Part.{Part}
 use Rattle.reading.specs.Heads.{size_field, head, PartAt}

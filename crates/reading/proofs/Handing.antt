@@ -9,7 +9,7 @@ use Rattle.faults.specs.Faults.{gives}
 use Rattle.faults.specs.declared.kind.Kind.TheVariants.{WrongLength}
 use Rattle.faults.specs.declared.kind.Fault.{Fault}
 use Rattle.faults.specs.Faults as faults
-use Rattle.format.specs.Format.{got, fault, Format}
+use Rattle.format.specs.Format.{got, fault}
 use Rattle.layout.specs.Slim.{most_bytes}
 use Rattle.reading.specs.Heads as heads
 use Rattle.reading.specs.Heads.{part_bytes, head_in, PartAt, size_room, name_room}

@@ -9,7 +9,7 @@ use Rattle.faults.specs.Faults.{number_of}
 use Rattle.faults.specs.declared.kind.Kind.{Kind}
 use Rattle.faults.specs.declared.kind.Fault.{Fault}
 use Rattle.format.specs.Cells.{File, size, number}
-use Rattle.format.specs.Format.{Outcome, got, fault, Format, field}
+use Rattle.format.specs.Format.{Outcome, got, fault, field}
 use Rattle.format.proofs.Laws.{cond-got, got-got}
 use Rattle.format.proofs.Standing.{number-below}
 use Rattle.layout.specs.Slim.{any}

@@ -7,7 +7,7 @@ use Rattle.bits.proofs.Numbers.{length-bits, number-bits}
 use Rattle.bits.proofs.Files.{length-bits_of, drop-bits_of}
 use Rattle.bits.proofs.Fields.{Bytes-drop}
 use Rattle.format.specs.Cells.{File, size, number}
-use Rattle.format.specs.Format.{Outcome, got, fault, next, Format, field, whole, ◌>>=◌, ◌∈◌}
+use Rattle.format.specs.Format.{Outcome, got, fault, next, field, ◌>>=◌}
 use Rattle.format.proofs.Laws.{faulted, got-got, cond-got}
 use Rattle.format.proofs.Loops.{before}
 use Rattle.layout.specs.Slim.{any, byte, tail_of, name_bytes, block, extra_bytes}

@@ -1,7 +1,7 @@
 -- The head of a file that is accepted.
 use Rattle.std.specs.Prelude.{◌≡◌, ℕ, cond, List, Some, None}
 use Rattle.bits.specs.Bits.{bits_of}
-use Rattle.format.specs.Format.{got, Format}
+use Rattle.format.specs.Format.{got}
 use Rattle.layout.specs.Recording.{Recording}
 use Rattle.layout.specs.Slim.{flag_byte, raw_total}
 use Rattle.reading.specs.Heads.{Head, head}

@@ -4,7 +4,7 @@ use Rattle.std.specs.Option.{option_map}
 use Rattle.bits.specs.Bits.{bits_of}
 use Rattle.faults.specs.Faults.{Answer, gives}
 use Rattle.faults.specs.Faults as faults
-use Rattle.format.specs.Format.{Outcome, got, fault, Format}
+use Rattle.format.specs.Format.{Outcome, got, fault}
 use Rattle.layout.specs.Slim.{most_bytes}
 use Rattle.reading.specs.Heads as heads
 use Rattle.reading.specs.Heads.{part_bytes}

@@ -4,7 +4,7 @@ use Rattle.bits.specs.Bits.{bits_of}
 use Rattle.faults.specs.Faults.{number_of}
 use Rattle.faults.specs.declared.kind.Fault.{Fault}
 use Rattle.format.specs.Cells.{File}
-use Rattle.format.specs.Format.{Outcome, got, fault, Format, field}
+use Rattle.format.specs.Format.{Outcome, got, fault, field}
 use Rattle.layout.specs.Slim.{any}
 use Rattle.reading.specs.declared.source.Source.{Source}
 use Rattle.reading.specs.declared.taken.Taken.{Taken}

@@ -1,4 +1,6 @@
 // Reading the parts of a slim file.
+#![tactic(auto)]
+
 mod added;
 pub mod block;
 pub mod closing;

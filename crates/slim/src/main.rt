@@ -1,4 +1,6 @@
 // Packs raw bytes from standard input as 8-bit words in reduced binary, reads them back, and prints what it did.
+#![tactic(auto)]
+
 use anyhow::anyhow;
 use blocks::block::{pack, read};
 use coders::kinds::Reduced;

@@ -1,4 +1,6 @@
 // Makes a slim file of raw bytes from standard input, and prints it in hexadecimal.
+#![tactic(auto)]
+
 mod recorder;
 
 use recorder::{MOST_RAW, record_bytes};

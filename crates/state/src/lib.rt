@@ -1,4 +1,6 @@
 // What a writer knows, as plain numbers.
+#![tactic(auto)]
+
 use fields::place::{BitPlace, BytePlace};
 
 // The flags of a file that the caller chooses; a name and extra bytes are flagged by being there.

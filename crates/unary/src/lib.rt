@@ -1,4 +1,6 @@
 // A coder of words of 4 bits, beside those of slim files.
+#![tactic(auto)]
+
 ghost use Rattle.std.proofs.Common.{lit<, lit≤};
 ghost use Rattle.forms.specs.Laws.{CoderLaws};
 ghost use Rattle.unary.specs.Unary.{unary};

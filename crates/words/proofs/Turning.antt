@@ -18,7 +18,6 @@ use Rattle.channel.specs.Words.{kept_taken}
 use Rattle.calls.specs.Calls.{settings}
 use Rattle.frames.specs.Frames.{countable}
 use Rattle.frames.proofs.Tables.{described, rows-many, row_is, table_kept}
-use Rattle.words.specs.declared.turn.Turn.{Turn}
 use Rattle.words.specs.Words.{word_next}
 use Rattle.words.proofs.Passing.{took, took-not}
 

@@ -1,4 +1,6 @@
 // The words of a section, read from a file.
+#![tactic(auto)]
+
 pub mod pass;
 pub mod passed;
 pub mod spread;

@@ -1,11 +1,10 @@
 -- The bounds that a writer keeps.
-use Rattle.std.proofs.Common.{◌≡◌, ℕ, ◌+◌, ◌*◌, ◌<◌, ◌≤◌, Bool, true, false, cond, sym, ap, ◌∙◌, subst, arith}
+use Rattle.std.proofs.Common.{◌≡◌, ℕ, ◌+◌, ◌*◌, ◌<◌, ◌≤◌, false, cond, ap, ◌∙◌, arith}
 use Rattle.layout.specs.Slim.{most_bytes}
 use Rattle.channel.specs.declared.record.Channel.{Channel}
 use Rattle.state.specs.declared.Edge.{Edge}
 use Rattle.state.specs.declared.Spot.{Spot}
 use Rattle.calls.specs.Calls.{strange, row_bytes, moved_on}
-use Rattle.writer.specs.declared.states.Between.{Between}
 use Rattle.writer.specs.declared.states.Inside.{Inside}
 use Rattle.writer.proofs.Putting.{moved, same_length}
 

@@ -1,17 +1,17 @@
 -- A fill is an opening and what is poured behind it.
-use Rattle.std.proofs.Common.{◌≡◌, ℕ, ◌+◌, ◌*◌, Bool, true, false, cond, not, eqb, ltb, List, [], ◌∷◌, map, length, set, Some, None, Ok, Err, Option, Result, sym, refl, ap, ◌∙◌, arith}
+use Rattle.std.proofs.Common.{◌≡◌, ℕ, ◌+◌, ◌*◌, Bool, true, false, cond, not, eqb, ltb, List, [], ◌∷◌, map, length, Some, None, Ok, Err, Option, Result, sym, refl, ap, ◌∙◌, arith}
 use Rattle.std.proofs.lemmas.Bool.Decides.{nat_tests}
-use Rattle.bits.specs.Bits.{put_bits, cleared_from}
+use Rattle.bits.specs.Bits.{cleared_from}
 use Rattle.forms.proofs.Codes.{none-some}
 use Rattle.layout.specs.Slim.{recorded}
 use Rattle.channel.specs.declared.record.Channel.{Channel}
-use Rattle.channel.specs.Records.{settings_of, rested}
+use Rattle.channel.specs.Records.{rested}
 use Rattle.state.specs.declared.Edge.{Edge}
 use Rattle.state.specs.declared.Spot.{Spot}
 use Rattle.calls.specs.Calls as calls
 use Rattle.calls.specs.Calls.{Trouble, answer, unless, settings, start, section, open_spot, open_result, open_bytes, open_table, wrong_count, describable, putting, put_spot, put_bytes, put_table, coded, next_row, form_in, moved_on, Putting, puts, longer, fill_puts, words_of, cut_short, earlier, later_fault, fill_answer, fill_result, fill_leaves, fill_bytes, fill_table}
 use Rattle.calls.proofs.Keeping.{settings-rested}
-use Rattle.writer.specs.Filling.{poured, poured_result, poured_bytes}
+use Rattle.writer.specs.Filling.{poured}
 use Rattle.writer.proofs.Putting.{moved}
 
 -- ## Answers apart

@@ -1,9 +1,9 @@
 -- A section of one channel, filled by one stream of words.
-use Rattle.std.proofs.Common.{◌≡◌, ℕ, suc, ◌+◌, ◌-◌, ◌*◌, ◌/◌, ◌%◌, ◌<◌, ◌≤◌, min, Bool, true, false, cond, not, ◌&&◌, ◌||◌, eqb, ltb, List, [], ◌∷◌, length, get_or, Some, None, Ok, Err, Option, Result, sym, refl, ap, ◌∙◌, subst, mod-lt, mul-le-mul_left, arith}
+use Rattle.std.proofs.Common.{◌≡◌, ℕ, ◌+◌, ◌-◌, ◌*◌, ◌/◌, ◌%◌, ◌≤◌, min, Bool, true, cond, not, ◌&&◌, ◌||◌, eqb, ltb, List, [], ◌∷◌, length, get_or, Some, None, Option, Result, sym, refl, ap, ◌∙◌, subst, mul-le-mul_left, arith}
 use Rattle.std.proofs.lemmas.Bool.{and_parts}
 use Rattle.std.specs.Option.{option_map}
 use Rattle.bits.specs.Raw.{raw_words}
-use Rattle.layout.specs.Channels.{width, ruled, pile}
+use Rattle.layout.specs.Channels.{ruled}
 use Rattle.layout.specs.Slim.{most_bytes}
 use Rattle.channel.specs.declared.coder.ChannelCoder.{ChannelCoder}
 use Rattle.channel.specs.declared.record.Channel.{Channel}
@@ -11,8 +11,8 @@ use Rattle.channel.specs.Records.{settings_of}
 use Rattle.channel.specs.Piles.{CoderOf, coder_coding, coder_width}
 use Rattle.state.specs.declared.Edge.{Edge}
 use Rattle.state.specs.declared.Spot.{Spot}
-use Rattle.calls.specs.Calls.{Trouble, answer, earlier, settings, describable, no_row, row_bytes, words_of, cut_short, puts, Putting}
-use Rattle.stream.specs.Stream.{Stream, streamed, put_stream}
+use Rattle.calls.specs.Calls.{Trouble, answer, earlier, settings, describable, no_row, row_bytes, cut_short}
+use Rattle.stream.specs.Stream.{Stream, put_stream}
 use Rattle.stream.proofs.OneRow.{alone, left, grows, given_after, given-fresh, repeats-some}
 use Rattle.stream.proofs.RawRow.{bytes-some, cut-row}
 use Rattle.stream.proofs.Limits.{overrun, most-words, put-bounds, put_fit, row-filled}

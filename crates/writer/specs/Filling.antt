@@ -1,12 +1,9 @@
 -- What filling a section leaves, behind its opening.
 use Rattle.std.specs.Prelude.{ℕ, Bool, cond, List, Result}
-use Rattle.std.specs.Result.{result_map_both}
 use Rattle.bits.specs.Bits.{cleared_from}
 use Rattle.channel.specs.declared.record.Channel.{Channel}
-use Rattle.faults.specs.declared.kind.Fault.{Fault}
 use Rattle.state.specs.declared.Spot.{Spot}
-use Rattle.calls.specs.Calls.{Trouble, Putting, answer, unless, settings, puts, words_of, cut_short, later_fault}
-use Rattle.writer.specs.Answers.{trouble}
+use Rattle.calls.specs.Calls.{Trouble, Putting, answer, unless, settings, puts, words_of, later_fault}
 
 -- what a guard leaves at its end: zeros from a place on, unless the work was complete
 abbrev pub guarded : Bool → List ℕ → ℕ → List ℕ

@@ -1,4 +1,6 @@
 // The writer of slim files: begin, open, put, more, last, void and fill.
+#![tactic(auto)]
+
 pub mod begin;
 pub mod close;
 pub mod fill;

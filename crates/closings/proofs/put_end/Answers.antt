@@ -1,6 +1,6 @@
-use Rattle.std.proofs.Common.{◌≡◌, ℕ, List, [], length, sym, ap, ◌∙◌, arith}
+use Rattle.std.proofs.Common.{◌≡◌, ℕ, List, [], length, ap, ◌∙◌, arith}
 use Rattle.std.proofs.lemmas.List.{nil_from_length}
-use Rattle.layout.specs.Slim.{Closing, ended}
+use Rattle.layout.specs.Slim.{ended}
 use Rattle.calls.specs.Parts.{closing_bits}
 use Rattle.closings.specs.Closings.{padded_bits, closing_end, closing_bytes}
 use Rattle.closings.proofs.Padded.{end-padded, end_by, bytes-by}

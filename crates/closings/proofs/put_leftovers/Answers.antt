@@ -1,13 +1,11 @@
-use Rattle.std.proofs.Common.{◌≡◌, ℕ, ◌+◌, ◌*◌, ◌/◌, ◌^◌, ◌<◌, ◌≤◌, Bool, true, false, cond, List, length, Some, None, Option, sym, refl, ap, ◌∙◌, arith}
+use Rattle.std.proofs.Common.{◌≡◌, ℕ, ◌+◌, ◌*◌, ◌≤◌, Bool, true, false, cond, List, length, Some, None, Option, sym, refl, ap, ◌∙◌, arith}
 use Rattle.bits.specs.Bits.{bits, put_bits, field_at}
 use Rattle.bits.proofs.Fields.{field_lt}
 use Rattle.fields.specs.Fields.{is_field}
 use Rattle.forms.proofs.Codes.{none-some}
-use Rattle.format.specs.Format.{gap}
-use Rattle.layout.specs.Slim.{Closing, ended}
+use Rattle.layout.specs.Slim.{ended}
 use Rattle.calls.specs.Parts.{closing_bits}
 use Rattle.calls.proofs.Buffers.{field_put}
-use Rattle.closings.specs.Closings.{padded_bits}
 use Rattle.closings.proofs.Padded.{left-length, left-put, left_end, accepted, refused, fits-long}
 use Rattle.closings.proofs.put_leftovers.Goals as goal
 

@@ -1,5 +1,5 @@
-use Rattle.std.proofs.Common.{◌≡◌, ℕ, List, length, sym, ap, ◌∙◌, arith}
-use Rattle.layout.specs.Slim.{Closing, another}
+use Rattle.std.proofs.Common.{ℕ, List, length, ap, ◌∙◌, arith}
+use Rattle.layout.specs.Slim.{another}
 use Rattle.closings.specs.Closings.{padded_bits, closing_end, closing_bytes}
 use Rattle.closings.proofs.Padded.{more-padded, end_by, bytes-by}
 use Rattle.closings.proofs.put_more.Goals as goal

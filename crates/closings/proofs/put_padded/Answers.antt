@@ -1,4 +1,4 @@
-use Rattle.std.proofs.Common.{◌≡◌, ℕ, ◌+◌, ◌*◌, ◌/◌, ◌≤◌, Bool, true, false, cond, leb, List, length, Some, None, Option, sym, ap, ◌∙◌, arith}
+use Rattle.std.proofs.Common.{◌≡◌, ℕ, ◌+◌, ◌*◌, ◌/◌, ◌≤◌, true, false, cond, leb, List, length, Some, None, Option, sym, ap, ◌∙◌, arith}
 use Rattle.fields.specs.Fields.{is_field}
 use Rattle.format.specs.Format.{gap}
 use Rattle.closings.specs.Closings.{padded_bits}

@@ -1,4 +1,4 @@
-use Rattle.std.proofs.Common.{◌≡◌, length, sym, ap, arith}
+use Rattle.std.proofs.Common.{length, sym, ap, arith}
 use Rattle.std.specs.Option.{option_map}
 use Rattle.heads.proofs.Sizes.{extra-size, extra-most, extra-none}
 use Rattle.heads.proofs.extra_size.Goals as goal

@@ -1,4 +1,4 @@
-use Rattle.std.proofs.Common.{◌≡◌, arith}
+use Rattle.std.proofs.Common.{arith}
 use Rattle.calls.proofs.Chains.{head_length}
 use Rattle.heads.proofs.Sizes.{size-worth}
 use Rattle.heads.proofs.head_size.Goals as goal

@@ -1,4 +1,4 @@
-use Rattle.std.proofs.Common.{◌≡◌, length, sym, ap, arith}
+use Rattle.std.proofs.Common.{length, sym, ap, arith}
 use Rattle.std.specs.Option.{option_map}
 use Rattle.heads.proofs.Sizes.{name-size, name-most, name-none}
 use Rattle.heads.proofs.name_size.Goals as goal

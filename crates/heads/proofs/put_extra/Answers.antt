@@ -1,6 +1,6 @@
 use Rattle.std.proofs.Common.{◌≡◌, ℕ, ◌+◌, ◌*◌, List, length, Option, sym, ap, ◌∙◌, arith}
 use Rattle.std.specs.Option.{option_map}
-use Rattle.bits.specs.Bits.{bits, bits_of, put_bits}
+use Rattle.bits.specs.Bits.{bits_of, put_bits}
 use Rattle.bits.proofs.Laws.{put_bits-none}
 use Rattle.calls.proofs.Buffers.{field_put}
 use Rattle.heads.proofs.Sizes.{extra-size, extra-none, extra-put}

@@ -1,4 +1,4 @@
-use Rattle.std.proofs.Common.{◌≡◌, ℕ, ◌+◌, ◌*◌, ◌≤◌, Bool, true, false, cond, List, length, sym, ap, ◌∙◌, arith}
+use Rattle.std.proofs.Common.{◌≡◌, ℕ, ◌+◌, ◌*◌, ◌≤◌, true, false, cond, List, length, sym, ap, ◌∙◌, arith}
 use Rattle.fields.specs.Fields.{is_field}
 use Rattle.bits.specs.Bits.{bits, put_bits}
 use Rattle.calls.proofs.Buffers.{field_put, number_put}

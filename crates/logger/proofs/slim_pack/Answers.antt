@@ -1,4 +1,4 @@
-use Rattle.std.proofs.Common.{◌≡◌, length, sym, ap, ◌∙◌, w64, SFits, rules}
+use Rattle.std.proofs.Common.{length, sym, ap, ◌∙◌, w64, SFits, rules}
 use Rattle.std.proofs.lemmas.Int.{to_z-of_z}
 use Rattle.faults.specs.Faults.{fault}
 use Rattle.blocks.specs.Blocks.{pack_answer, pack_bytes}

@@ -1,4 +1,4 @@
-use Rattle.std.proofs.Common.{◌≡◌, ℕ, ◌+◌, ◌-◌, ◌*◌, ◌/◌, ◌%◌, ◌<◌, ◌≤◌, cond, leb, List, length, drop, sym, refl, ap, ◌∙◌, arith}
+use Rattle.std.proofs.Common.{◌≡◌, ℕ, ◌+◌, ◌-◌, ◌*◌, ◌/◌, ◌%◌, ◌<◌, ◌≤◌, cond, leb, List, length, refl, ap, ◌∙◌, arith}
 use Rattle.bits.specs.Raw.{raw_words}
 use Rattle.bits.proofs.Raw.{length-raw_words}
 use Rattle.fields.specs.Fields.{is_field, held, held_end}

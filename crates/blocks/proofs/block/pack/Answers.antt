@@ -1,4 +1,4 @@
-use Rattle.std.proofs.Common.{◌≡◌, ℕ, sym, ap, ◌∙◌}
+use Rattle.std.proofs.Common.{ℕ, sym, ap, ◌∙◌}
 use Rattle.faults.specs.Faults.{answered}
 use Rattle.forms.proofs.Blocks.{apart}
 use Rattle.blocks.specs.Blocks.{bytes_per}

@@ -1,4 +1,4 @@
-use Rattle.std.proofs.Common.{◌≡◌, ℕ, sym, ap, ◌∙◌, arith}
+use Rattle.std.proofs.Common.{ℕ, ◌∙◌, arith}
 use Rattle.faults.specs.declared.kind.Kind.TheVariants.{NoForm, OutputTooShort}
 use Rattle.blocks.specs.Blocks.{bytes_per}
 use Rattle.blocks.proofs.Packing.{packed_none, packed-short, packed-done, at-start}

@@ -1,4 +1,4 @@
-use Rattle.std.proofs.Common.{◌≡◌, ℕ, ◌+◌, ◌/◌, ◌≤◌, length, sym, ap, ◌∙◌, arith}
+use Rattle.std.proofs.Common.{ℕ, ◌+◌, ◌/◌, ◌≤◌, length, arith}
 use Rattle.blocks.specs.Blocks.{bytes_per}
 use Rattle.blocks.proofs.Unpacking.{read_done}
 use Rattle.blocks.proofs.block.read_words.Goals as goal

@@ -1,4 +1,4 @@
-use Rattle.std.proofs.Common.{◌≡◌, ℕ, suc, ◌+◌, ◌-◌, ◌*◌, ◌≤◌, sym, ap, ◌∙◌, arith}
+use Rattle.std.proofs.Common.{◌≡◌, ℕ, ◌+◌, ◌-◌, ◌≤◌, sym, ap, ◌∙◌, arith}
 use Rattle.faults.specs.Faults.{number_of}
 use Rattle.blocks.specs.Loops.{read_words, end_of}
 use Rattle.blocks.proofs.Folds.{read_more, read-not, read_none, taken-short}

@@ -1,4 +1,4 @@
-use Rattle.std.proofs.Common.{◌≡◌, ℕ, suc, ◌+◌, ◌-◌, ◌*◌, ◌<◌, ◌≤◌, List, length, sym, ap, ◌∙◌, mul-zero, mul-add, arith}
+use Rattle.std.proofs.Common.{◌≡◌, ℕ, ◌+◌, ◌-◌, ◌*◌, ◌≤◌, List, length, sym, ap, ◌∙◌, mul-zero, mul-add, arith}
 use Rattle.bits.specs.Bits.{bits, put_bits}
 use Rattle.faults.specs.Faults.{number_of}
 use Rattle.blocks.specs.Blocks.{bytes_per}

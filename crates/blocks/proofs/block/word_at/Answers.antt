@@ -1,4 +1,4 @@
-use Rattle.std.proofs.Common.{◌≡◌, unwrap_or, ap, ◌∙◌}
+use Rattle.std.proofs.Common.{unwrap_or, ap, ◌∙◌}
 use Rattle.blocks.proofs.Parts.{lent-word}
 use Rattle.blocks.proofs.block.word_at.Goals as goal
 

@@ -1,4 +1,4 @@
-use Rattle.std.proofs.Common.{◌≡◌, ℕ, ◌+◌, ◌-◌, ◌%◌, ◌^◌, ap, ◌∙◌}
+use Rattle.std.proofs.Common.{ℕ, ◌+◌, ◌%◌, ◌^◌, ap, ◌∙◌}
 use lib.Bits.{bit_and, and_mask}
 use Rattle.forms.proofs.Modular.{wrapped_sum}
 use Rattle.coder.proofs.modular.sum.Goals as goal

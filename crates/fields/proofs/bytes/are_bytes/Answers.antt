@@ -1,4 +1,4 @@
-use Rattle.std.proofs.Common.{◌<◌, get_or, arith}
+use Rattle.std.proofs.Common.{arith}
 use Rattle.bits.proofs.Places.{Bytes-from, Bytes-none}
 use Rattle.fields.proofs.bytes.are_bytes.Goals as goal
 

@@ -1,5 +1,5 @@
-use Rattle.std.proofs.Common.{◌≡◌, ℕ, ◌+◌, ◌-◌, ◌*◌, ◌/◌, ◌%◌, ◌^◌, ◌<◌, ◌≤◌, List, sym, ap, ◌∙◌, arith}
-use Rattle.bits.specs.Bits.{bits_of, bits, overwritten}
+use Rattle.std.proofs.Common.{ℕ, ◌+◌, ◌-◌, ◌*◌, ◌/◌, ◌%◌, List, sym, ap, ◌∙◌, arith}
+use Rattle.bits.specs.Bits.{bits_of, bits}
 use Rattle.bits.proofs.Places.{put_word, put-long, put_whole, place, Bytes-from}
 use Rattle.fields.proofs.field.put_inside.Goals as goal
 

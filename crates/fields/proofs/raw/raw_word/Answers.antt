@@ -1,4 +1,4 @@
-use Rattle.std.proofs.Common.{◌≡◌, ℕ, ◌+◌, ◌*◌, ◌≤◌, length, sym, ap, ◌∙◌, arith}
+use Rattle.std.proofs.Common.{◌≡◌, ℕ, length, sym, ◌∙◌, arith}
 use Rattle.bits.proofs.Laws.{field-one, field-two, field-three, field-four}
 use Rattle.fields.proofs.Within.{raw-room, raw-there}
 use Rattle.fields.proofs.raw.raw_word.Goals as goal

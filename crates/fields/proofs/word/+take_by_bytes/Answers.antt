@@ -1,6 +1,6 @@
-use Rattle.std.proofs.Common.{◌≡◌, ℕ, ◌+◌, ◌-◌, ◌*◌, ◌/◌, ◌%◌, ◌^◌, ◌<◌, ◌≤◌, List, length, get_or, sym, ap, ◌∙◌, ⊎_elim, arith}
+use Rattle.std.proofs.Common.{◌≡◌, ℕ, ◌+◌, ◌-◌, ◌*◌, ◌≤◌, List, sym, ap, ◌∙◌, arith}
 use Rattle.bits.specs.Bits.{field_at}
-use Rattle.bits.proofs.Fields.{field_lt, field_past}
+use Rattle.bits.proofs.Fields.{field_past}
 use Rattle.bits.proofs.Places.{take-byte, take_more, take_none}
 use Rattle.fields.proofs.word.+take_by_bytes.Goals as goal
 use Rattle.fields.proofs.word.+take_by_bytes.Goals.{then-count-room, else-count-room, then-count-eq0-via-then-count-eq0, then-count-eq0-via-else-count-eq0+then-p-file}

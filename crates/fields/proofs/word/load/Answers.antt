@@ -1,4 +1,4 @@
-use Rattle.std.proofs.Common.{◌≡◌, ◌∙◌}
+use Rattle.std.proofs.Common.{◌∙◌}
 use Rattle.bits.proofs.Places.{field-eight}
 use Rattle.fields.proofs.word.load.Goals as goal
 

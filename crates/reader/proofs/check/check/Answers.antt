@@ -1,7 +1,6 @@
-use Rattle.std.proofs.Common.{◌≡◌, ℕ, ◌≤◌, List, length, sym, ap, ◌∙◌, arith}
+use Rattle.std.proofs.Common.{ℕ, ◌≤◌, List, length, sym, ap, ◌∙◌, arith}
 use Rattle.bits.specs.Bits.{bits_of}
 use Rattle.faults.specs.Faults as faults
-use Rattle.format.specs.Format.{Format}
 use Rattle.layout.specs.Slim.{chain}
 use Rattle.calls.specs.Calls.{flags}
 use Rattle.state.specs.declared.Flags.{Flags}

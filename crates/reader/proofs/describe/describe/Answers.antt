@@ -3,7 +3,6 @@ use Rattle.bits.specs.Bits.{bits_of}
 use Rattle.faults.specs.Faults as faults
 use Rattle.faults.specs.Faults.{Answer, gives}
 use Rattle.layout.specs.Recording.{Section}
-use Rattle.format.specs.Format.{Format}
 use Rattle.layout.specs.Slim.{chain, read}
 use Rattle.calls.specs.Calls.{flags}
 use Rattle.channel.specs.declared.record.Channel.{Channel}

@@ -1,7 +1,6 @@
 use Rattle.std.proofs.Common.{◌≡◌, ℕ, ◌-◌, List, sym, ap, ◌∙◌, subst, arith}
 use Rattle.bits.specs.Bits.{bits_of}
 use Rattle.format.specs.Cells.{File}
-use Rattle.format.specs.Format.{Format}
 use Rattle.layout.specs.Slim as slim
 use Rattle.layout.specs.Slim.{chain}
 use Rattle.calls.specs.Calls.{flags}

@@ -1,6 +1,5 @@
 use Rattle.std.proofs.Common.{◌≡◌, ◌-◌, ◌≤◌}
 use Rattle.bits.specs.Bits.{bits_of}
-use Rattle.format.specs.Format.{Format}
 use Rattle.layout.specs.Slim.{chain}
 use Rattle.calls.specs.Calls.{flags}
 use Rattle.reader.specs.Describing.{HasSection, section_in}

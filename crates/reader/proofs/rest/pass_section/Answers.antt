@@ -1,10 +1,10 @@
-use Rattle.std.proofs.Common.{◌≡◌, List, sym, ap, ◌∙◌}
+use Rattle.std.proofs.Common.{List, sym}
 use Rattle.bits.specs.Bits.{bits_of}
 use Rattle.format.specs.Cells.{File}
 use Rattle.calls.specs.Calls.{flags}
 use Rattle.channel.specs.declared.record.Channel.{Channel}
 use Rattle.reading.proofs.Steps.{passed}
-use Rattle.reader.specs.Sections.{Head, head_in}
+use Rattle.reader.specs.Sections.{head_in}
 use Rattle.reader.specs.Counts.{outline_in}
 use Rattle.reader.proofs.Sound.{head-sound}
 use Rattle.reader.proofs.Passed.{section-no-head, section-rest}

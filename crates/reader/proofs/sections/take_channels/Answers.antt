@@ -1,7 +1,7 @@
-use Rattle.std.proofs.Common.{◌≡◌, Bool, List, sym, ap, ◌∙◌}
+use Rattle.std.proofs.Common.{Bool, ap, ◌∙◌}
 use Rattle.bits.specs.Bits.{bits_of}
 use Rattle.format.specs.Cells.{File}
-use Rattle.format.specs.Format.{Format, times}
+use Rattle.format.specs.Format.{times}
 use Rattle.layout.specs.Slim.{channel}
 use Rattle.calls.specs.Calls.{flags}
 use Rattle.reading.proofs.Steps.{passed}

@@ -1,6 +1,6 @@
-use Rattle.std.proofs.Common.{◌≡◌, ◌≤◌, map, length, take}
+use Rattle.std.proofs.Common.{◌≡◌, ◌≤◌, map, take}
 use Rattle.bits.specs.Bits.{bits_of}
-use Rattle.format.specs.Format.{Format, times}
+use Rattle.format.specs.Format.{times}
 use Rattle.layout.specs.Slim.{channel}
 use Rattle.channel.specs.Records.{rested}
 use Rattle.reader.specs.Sections.{rows_in}

@@ -2,7 +2,6 @@ use Rattle.std.proofs.Common.{◌≡◌, ℕ, List, length, refl, ap, ◌∙◌,
 use Rattle.bits.specs.Bits.{bits_of}
 use Rattle.faults.specs.Faults as faults
 use Rattle.faults.specs.Faults.{answered}
-use Rattle.format.specs.Format.{Format}
 use Rattle.layout.specs.Slim.{chain}
 use Rattle.calls.specs.Calls.{flags}
 use Rattle.state.specs.declared.Flags.{Flags}

@@ -1,7 +1,6 @@
-use Rattle.std.proofs.Common.{◌≡◌, ℕ, ◌+◌, ◌*◌, ◌/◌, ◌^◌, ◌≤◌, min, Bool, true, cond, List, length, replicate, Some, None, Ok, Err, Option, Result, sym, refl, ap, ◌∙◌, arith}
+use Rattle.std.proofs.Common.{◌≡◌, ℕ, ◌/◌, Bool, cond, List, length, replicate, None, Ok, Option, Result, sym, ap, ◌∙◌, arith}
 use Rattle.std.specs.Option.{option_map}
 use Rattle.bits.specs.Bits.{put_bits, cleared_from}
-use Rattle.calls.specs.Parts.{Marks}
 use Rattle.calls.specs.Calls.{Trouble, marks, head, begin_fault, begun, answer, unless}
 use Rattle.state.specs.declared.Edge.{Edge}
 use Rattle.heads.specs.Heads.{head_fits}

@@ -1,4 +1,4 @@
-use Rattle.std.proofs.Common.{◌≡◌, length, sym, ap, ◌∙◌}
+use Rattle.std.proofs.Common.{length, sym, ap, ◌∙◌}
 use Rattle.coder.specs.Steps.{put_answer, put_bytes}
 use Rattle.channel.specs.Piles.{coder_coding}
 use Rattle.channel.specs.Words.{kept_put}

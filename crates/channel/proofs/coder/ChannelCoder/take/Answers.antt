@@ -1,4 +1,4 @@
-use Rattle.std.proofs.Common.{◌≡◌, sym, ap, ◌∙◌}
+use Rattle.std.proofs.Common.{sym, ap, ◌∙◌}
 use Rattle.coder.specs.Steps.{take_answer}
 use Rattle.channel.specs.Piles.{coder_coding}
 use Rattle.channel.specs.Words.{kept_taken}

@@ -2,9 +2,9 @@ use Rattle.std.proofs.Common.{◌≡◌, ℕ, ◌+◌, ◌-◌, ◌*◌, ◌/◌
 use lib.Bits.{bit_or}
 use Rattle.std.proofs.lemmas.Bool.{leb-true}
 use Rattle.std.proofs.lemmas.Bool.Decides.{nat_tests}
-use Rattle.bits.specs.Bits.{bits, put_bits, stored}
+use Rattle.bits.specs.Bits.{bits, stored}
 use Rattle.bits.proofs.Words.{small-lt, small_put, full-rest, full-rest-lt, full_put, rest-none, none_lt}
-use Rattle.fields.specs.Fields.{is_field, held_end}
+use Rattle.fields.specs.Fields.{is_field}
 use Rattle.fields.proofs.accumulator.Accumulator.push.Goals as goal
 use Rattle.fields.proofs.accumulator.Accumulator.push.Goals.{then-left-eq0, else-left-eq0}
 

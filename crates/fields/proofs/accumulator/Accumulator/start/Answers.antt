@@ -1,8 +1,7 @@
-use Rattle.std.proofs.Common.{◌≡◌, ℕ, ◌+◌, ◌-◌, ◌*◌, ◌/◌, ◌%◌, ◌^◌, ◌<◌, ◌≤◌, Bool, true, leb, List, length, sym, refl, ap, ◌∙◌, arith}
+use Rattle.std.proofs.Common.{◌≡◌, ℕ, ◌+◌, ◌*◌, ◌/◌, ◌%◌, ◌≤◌, List, length, sym, ap, ◌∙◌, arith}
 use Rattle.std.proofs.lemmas.Bool.{leb-true}
 use Rattle.bits.specs.Bits.{bits, put_bits, Bytes}
 use Rattle.bits.proofs.Laws.{put_bits-none, put_low}
-use Rattle.bits.proofs.Words.{rest-none}
 use Rattle.fields.proofs.accumulator.Accumulator.start.Goals as goal
 use Rattle.fields.proofs.accumulator.Accumulator.start.Goals.{then-have-eq0, else-have-eq0}
 

@@ -4,7 +4,7 @@ use Rattle.format.specs.Cells.{File}
 use Rattle.reading.specs.Heads.{part_bytes}
 use Rattle.reading.proofs.Looks.{fault-is}
 use Rattle.reading.proofs.Steps.{passed, passed_none}
-use Rattle.reading.proofs.Names.{name-last, left, name-begins, name_faults, name-long, name-next, name_done}
+use Rattle.reading.proofs.Names.{name-last, name-begins, name_faults, name-long, name-next, name_done}
 use Rattle.reading.proofs.source.Source.take_name.Goals as goal
 
 pub loop-len-init : goal.loop-len-init

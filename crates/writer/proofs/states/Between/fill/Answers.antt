@@ -1,4 +1,4 @@
-use Rattle.std.proofs.Common.{◌≡◌, ℕ, ◌+◌, ◌*◌, Bool, true, false, List, map, length, Some, None, Ok, Err, Option, Result, sym, refl, ap, ◌∙◌, arith}
+use Rattle.std.proofs.Common.{◌≡◌, ℕ, Bool, List, map, length, Some, None, Ok, Err, Result, sym, refl, ap, ◌∙◌}
 use Rattle.bits.specs.Bits.{put_bits, cleared_from}
 use Rattle.layout.specs.Slim.{recorded}
 use Rattle.channel.specs.declared.record.Channel.{Channel}
@@ -9,7 +9,7 @@ use Rattle.calls.specs.Calls as calls
 use Rattle.calls.specs.Calls.{Trouble, unless, settings, start, section, open_spot, describable, Putting, fill_puts, cut_short, later_fault}
 use Rattle.calls.proofs.Keeping.{settings-rested}
 use Rattle.writer.specs.Answers.{trouble}
-use Rattle.writer.specs.Filling.{poured, poured_result, poured_bytes}
+use Rattle.writer.specs.Filling.{poured_result, poured_bytes}
 use Rattle.writer.proofs.Filling.{met, met-none, passed, same-puts, fill-edge, fills-by}
 use Rattle.writer.proofs.states.Between.fill.Goals as goal
 

@@ -1,4 +1,4 @@
-use Rattle.std.proofs.Common.{◌≡◌, ℕ, ◌+◌, ◌*◌, ◌<◌, ◌≤◌, Bool, true, false, cond, not, List, map, length, Some, None, Ok, Err, Option, Result, sym, refl, ap, ◌∙◌, arith}
+use Rattle.std.proofs.Common.{◌≡◌, ℕ, ◌+◌, ◌*◌, true, false, cond, List, map, length, Ok, Result, sym, ap, ◌∙◌, arith}
 use Rattle.bits.specs.Bits.{put_bits}
 use Rattle.faults.specs.Faults.{number_of}
 use Rattle.channel.specs.declared.record.Channel.{Channel}

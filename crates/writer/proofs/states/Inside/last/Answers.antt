@@ -1,4 +1,4 @@
-use Rattle.std.proofs.Common.{◌≡◌, ℕ, List, Ok, Result, sym, ap, ◌∙◌, subst, arith, rules}
+use Rattle.std.proofs.Common.{◌≡◌, ℕ, List, Ok, Result, sym, ◌∙◌, subst, rules}
 use Rattle.bits.proofs.Places.{Bytes-from}
 use Rattle.channel.specs.declared.record.Channel.{Channel}
 use Rattle.state.specs.declared.Spot.{Spot}

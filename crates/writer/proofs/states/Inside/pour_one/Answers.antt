@@ -1,14 +1,12 @@
-use Rattle.std.proofs.Common.{◌≡◌, ℕ, ◌+◌, ◌-◌, ◌*◌, ◌/◌, ◌%◌, ◌<◌, ◌≤◌, Bool, true, false, cond, not, eqb, ltb, List, [], ◌∷◌, length, get_or, set, Some, None, Ok, Option, sym, refl, ap, ◌∙◌, subst, mul-le-mul_right, mod-lt, arith}
+use Rattle.std.proofs.Common.{◌≡◌, ℕ, ◌+◌, ◌-◌, ◌*◌, ◌/◌, ◌%◌, ◌<◌, ◌≤◌, Bool, true, false, cond, not, eqb, ltb, List, [], ◌∷◌, length, get_or, set, Some, None, Ok, sym, refl, ap, ◌∙◌, subst, mul-le-mul_right, mod-lt, arith}
 use Rattle.std.proofs.lemmas.Bool.Decides.{nat_tests}
 use Rattle.std.proofs.lemmas.Bool.{ne_eqb}
 use Rattle.std.specs.Option.{option_map}
 use Rattle.faults.specs.Faults.{number_of}
 use Rattle.channel.specs.declared.record.Channel.{Channel}
-use Rattle.channel.specs.Records.{settings_of, remembering}
-use Rattle.layout.specs.Channels.{ruled}
-use Rattle.state.specs.declared.Edge.{Edge}
+use Rattle.channel.specs.Records.{remembering}
 use Rattle.state.specs.declared.Spot.{Spot}
-use Rattle.calls.specs.Calls.{settings, no_row, row_bytes, Putting}
+use Rattle.calls.specs.Calls.{no_row, row_bytes, Putting}
 use Rattle.stream.specs.Stream.{Stream, told}
 use Rattle.stream.proofs.OneRow.{alone}
 use Rattle.writer.specs.declared.states.Inside.{Inside}

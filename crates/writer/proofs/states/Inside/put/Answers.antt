@@ -1,16 +1,15 @@
-use Rattle.std.proofs.Common.{◌≡◌, ℕ, ◌+◌, ◌*◌, ◌<◌, ◌≤◌, Bool, true, false, List, length, set, Some, None, Ok, Err, Option, Result, sym, refl, ap, ◌∙◌, arith}
+use Rattle.std.proofs.Common.{◌≡◌, ℕ, Bool, List, length, set, Some, None, Ok, Option, sym, ap, ◌∙◌, arith}
 use Rattle.bits.specs.Bits.{put_bits}
 use Rattle.forms.specs.Coding.{Coding, encoded}
-use Rattle.faults.specs.Faults.{Answer, gives, fault, number_of}
+use Rattle.faults.specs.Faults.{gives, fault, number_of}
 use Rattle.coder.specs.Steps.{laid, laid_bytes}
-use Rattle.layout.specs.Channels.{ruled, pile}
-use Rattle.layout.specs.Slim.{most_bytes}
+use Rattle.layout.specs.Channels.{pile}
 use Rattle.channel.specs.declared.record.Channel.{Channel}
 use Rattle.channel.specs.Records.{settings_of, remembering}
 use Rattle.channel.specs.Words.{kept_put}
 use Rattle.channel.specs.Piles.{coder_coding}
 use Rattle.state.specs.declared.Spot.{Spot}
-use Rattle.calls.specs.Calls.{Trouble, answer, unless, strange, row_bytes, next_row, coded, form_in, memory_of, putting, moved_on}
+use Rattle.calls.specs.Calls.{Trouble, answer, unless, next_row, coded, form_in, memory_of, putting, moved_on}
 use Rattle.writer.proofs.Putting.{form_put, form_refused, form-decides}
 use Rattle.writer.proofs.Bounds.{behind-word}
 use Rattle.writer.proofs.states.Inside.put.Goals as goal

@@ -8,8 +8,8 @@ use Rattle.coder.specs.declared.turn.Turn.{Turn}
 use Rattle.coders.specs.declared.flagged.FlaggedDelta.{FlaggedDelta}
 use Rattle.layout.specs.Recording as recordings
 use Rattle.layout.specs.Channels.{width, suits, ruled, algorithm, pile}
-use Rattle.channel.specs.declared.coder.ChannelCoder.{ChannelCoder}
-use Rattle.channel.specs.declared.coder.ChannelCoder.TheVariants.{Byte, Half, Full}
+use Rattle.channel.specs.declared.channel_coder.ChannelCoder.{ChannelCoder}
+use Rattle.channel.specs.declared.channel_coder.ChannelCoder.TheVariants.{Byte, Half, Full}
 
 -- the settings' algorithm at a width, which is there where the settings suit it
 abbrev pub AlgorithmOf : (W : ℕ) → recordings.Channel → Option (Algorithm W) → Type 0

@@ -1,7 +1,7 @@
 // Channel records: the settings of a channel and its memory.
 #![tactic(auto)]
 
-pub mod coder;
+pub mod channel_coder;
 pub mod describe;
 pub mod make;
 pub mod moved;

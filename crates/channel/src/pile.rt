@@ -3,7 +3,7 @@ ghost use Rattle.std.specs.Prelude.{◌≡◌};
 ghost use Rattle.channel.specs.Records.{settings_of, described};
 ghost use Rattle.channel.specs.Piles.{AlgorithmOf, PileOf, CoderOf};
 
-use crate::coder::ChannelCoder;
+use crate::channel_coder::ChannelCoder;
 use crate::make::width_of;
 use crate::record::{Channel, Settings};
 use coder::delta::Delta;

@@ -5,7 +5,7 @@ ghost use Rattle.coder.specs.Steps.{put_answer, put_bytes, take_answer};
 ghost use Rattle.channel.specs.Piles.{coder_coding};
 ghost use Rattle.channel.specs.Words.{put_parts, taken_parts, kept_put, kept_taken};
 
-use crate::coder::ChannelCoder;
+use crate::channel_coder::ChannelCoder;
 use crate::moved::{WordPut, WordTaken};
 use coder::coder::Coder;
 use coder::steps::{put_word, take_word};

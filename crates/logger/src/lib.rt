@@ -39,13 +39,7 @@ fn read_with<C: Coder>(coder: &C, block: &[u8], count: usize, out: &mut [u8]) ->
 
 // Packs raw 16-bit words, low byte first, and answers the number of bits of the block.
 // `delta` is 0 or 1, `narrow` the number of bits of a plain form, from 1 to 16, and `pedestal` a 16-bit word; other settings are fault 6.
-pub fn slim_pack(
-    delta: u32,
-    narrow: u32,
-    pedestal: u32,
-    raw: &[u8],
-    out: &mut [u8],
-) -> i64
+pub fn slim_pack(delta: u32, narrow: u32, pedestal: u32, raw: &[u8], out: &mut [u8]) -> i64
     ensures answer { result ≡ hosted (pack_host delta narrow pedestal raw.now (length out.old)) }
     ensures bytes { out.new ≡ pack_host_bytes delta narrow pedestal raw.now out.old }
 {

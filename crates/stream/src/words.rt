@@ -6,7 +6,7 @@ ghost use Rattle.channel.specs.Piles.{pile_coding, coder_coding, coder_width};
 ghost use Rattle.stream.specs.Stream.{put_stream, told};
 
 use crate::streamed::Streamed;
-use channel::coder::ChannelCoder;
+use channel::channel_coder::ChannelCoder;
 use coder::coder::Coder;
 use coder::delta::Delta;
 use coder::turn::Turn;

@@ -11,7 +11,7 @@ ghost use Rattle.words.specs.Words.{places, pass_answer, told, coder_answer, tur
 
 use crate::passed::Passed;
 use crate::turn::{MOST_CHANNELS, Turn};
-use channel::coder::ChannelCoder;
+use channel::channel_coder::ChannelCoder;
 use channel::moved::WordTaken;
 use channel::record::Channel;
 use coder::coder::Coder;

@@ -8,7 +8,7 @@ ghost use Rattle.frames.specs.Frames.{countable};
 ghost use Rattle.words.specs.Spread.{spread_answer, spread_bytes, coder_spread, turn_spread};
 
 use crate::pass::{first_turn, take_next};
-use channel::coder::ChannelCoder;
+use channel::channel_coder::ChannelCoder;
 use channel::record::Channel;
 use coder::coder::Coder;
 use coder::delta::Delta;

@@ -5,7 +5,7 @@ use Rattle.std.specs.Option.{option_map}
 use Rattle.bits.specs.Raw.{raw_words}
 use Rattle.layout.specs.Channels.{ruled}
 use Rattle.layout.specs.Slim.{most_bytes}
-use Rattle.channel.specs.declared.coder.ChannelCoder.{ChannelCoder}
+use Rattle.channel.specs.declared.channel_coder.ChannelCoder.{ChannelCoder}
 use Rattle.channel.specs.declared.record.Channel.{Channel}
 use Rattle.channel.specs.Records.{settings_of}
 use Rattle.channel.specs.Piles.{CoderOf, coder_coding, coder_width}

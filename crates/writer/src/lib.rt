@@ -9,6 +9,6 @@ pub mod open;
 mod pour;
 pub mod put;
 mod rows;
+mod single;
 pub mod states;
-mod stream;
 pub mod void;

@@ -2,7 +2,7 @@ use Rattle.std.proofs.Common.{length, sym, ap, ◌∙◌}
 use Rattle.coder.specs.Steps.{put_answer, put_bytes}
 use Rattle.channel.specs.Piles.{coder_coding}
 use Rattle.channel.specs.Words.{kept_put}
-use Rattle.channel.proofs.coder.ChannelCoder.put.Goals as goal
+use Rattle.channel.proofs.channel_coder.ChannelCoder.put.Goals as goal
 
 pub returns-in-Byte : goal.returns-in-Byte
 returns-in-Byte c =

@@ -1,8 +1,8 @@
 -- What the rules say of a table's rows.
-use Rattle.std.proofs.Common.{◌≡◌, ℕ, ◌+◌, ◌<◌, ◌≤◌, Bool, true, false, ◌&&◌, eqb, ltb, leb, List, [], ◌∷◌, length, get_or, drop, sym, ap, ◌∙◌, ⊎_elim, arith}
+use Rattle.std.proofs.Common.{◌≡◌, ℕ, ◌+◌, ◌<◌, ◌≤◌, Bool, true, false, ◌&&◌, ltb, leb, List, [], ◌∷◌, length, get_or, drop, sym, ap, ◌∙◌, arith}
 use lib.ListN.{length-map}
 use Rattle.std.proofs.lemmas.List.{drop_more, drop_all, get_or-map}
-use Rattle.std.proofs.lemmas.Bool.{and_parts, and_left, and_right, cases_lt, ltb-true, leb-true, eqb-true, eqb-false, lt-ltb, le-ltb, lt-leb, le-leb}
+use Rattle.std.proofs.lemmas.Bool.{and_parts, ltb-true, leb-true}
 use Rattle.layout.specs.Recording as recordings
 use Rattle.layout.specs.Channels.{width, suits, ruled}
 use Rattle.layout.specs.Turns.{no_channel}
@@ -80,24 +80,3 @@ row_is t i l = get_or-map settings_of t i no_row no_channel l
 
 pub row-ruled : (t : List Channel) (i : ℕ) → countable (settings t) ≡ true → i < length t → ruled (described t i) ≡ true
 row-ruled t i h l = ap ruled (sym (row_is t i l)) ∙ (table_kept (settings t) h).rules i (omega (arith, rows-many t))
-
--- ## Which tables can be counted
-
-pub none_uncountable : (t : List Channel) (r : Bool) → r ≡ eqb (length t) 0 → r ≡ true → false ≡ countable (settings t)
-none_uncountable t r e h = sym (and_left (ltb 0 (length (settings t))) (leb (length (settings t)) most_channels && describable true (settings t)) (le-ltb 0 (length (settings t)) (omega (arith, rows-many t, eqb-true (length t) 0 (sym e ∙ h)))))
-
-pub many_uncountable : (t : List Channel) → 32 < length t → false ≡ countable (settings t)
-many_uncountable t h =
-    let n = length (settings t) in
-    let d = describable true (settings t) in
-    sym (and_right (ltb 0 n) (leb n most_channels && d) (and_left (leb n most_channels) d (lt-leb n most_channels (omega (arith, rows-many t)))))
-
-pub some-countable : (t : List Channel) (r d : Bool) → r ≡ eqb (length t) 0 → r ≡ false → length t ≤ 32 → d ≡ describable true (settings t) → d ≡ countable (settings t)
-some-countable t r d e h l f =
-    let n = length (settings t) in
-    let D = describable true (settings t) in
-    let some : 0 < length t = positive (length t) (eqb-false (length t) 0 (sym e ∙ h)) in
-    f ∙ sym (ap (λ b. b && (leb n most_channels && D)) (lt-ltb 0 n (omega (arith, rows-many t))) ∙ ap (λ b. b && D) (le-leb n most_channels (omega (arith, rows-many t))))
-  where
-    positive : (n : ℕ) → (n ≡ 0 → ⊥) → 0 < n
-    positive n h = ⊎_elim (λ a. a) (λ a. absurd (h (omega arith))) (cases_lt 0 n)

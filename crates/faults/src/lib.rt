@@ -6,33 +6,30 @@ ghost use Rattle.faults.specs.Faults.{number_of};
 
 pub mod kind;
 
+use fields::place::BitPlace;
 use kind::{Fault, Kind};
+use std::fmt;
 
 impl Kind {
     // The number of the fault in the table.
     pub fn number(self) -> u32
         ensures { result ≡ number_of self }
     {
-        match self {
-            Kind::WrongLength => 1,
-            Kind::OutputTooShort => 2,
-            Kind::ReservedFlag => 3,
-            Kind::BadNameOrExtra => 4,
-            Kind::ChannelCount => 5,
-            Kind::BadSetting => 6,
-            Kind::NoForm => 7,
-            Kind::NoSection => 8,
-            Kind::OverLimit => 9,
-            Kind::LeftoverCount => 10,
-            Kind::InputEnds => 11,
-            Kind::NotSlim => 12,
-            Kind::PartialWord => 13,
-            Kind::WrongSize => 14,
-            Kind::WrongPointer => 15,
-            Kind::DeadForm => 16,
-            Kind::BadTag => 17,
-            Kind::TrailingBytes => 18,
-        }
+        self as u32
+    }
+
+    // A fault of this kind at a place.
+    pub fn at(self, place: BitPlace) -> Fault
+        ensures { result ≡ record { kind = self; place = place } }
+    {
+        Fault { kind: self, place }
+    }
+
+    // A fault of this kind at the first bit.
+    pub fn at_start(self) -> Fault
+        ensures { result ≡ record { kind = self; place = record { bits = 0 } } }
+    {
+        self.at(BitPlace::new(0))
     }
 }
 
@@ -42,5 +39,11 @@ impl Fault {
         ensures { result ≡ number_of self.kind }
     {
         self.kind.number()
+    }
+}
+
+impl fmt::Display for Fault {
+    fn fmt<W: fmt::Write>(&self, f: &mut fmt::Formatter<W>) -> fmt::Result {
+        write!(f, "fault {}", self.number())
     }
 }

@@ -2,13 +2,13 @@
 ghost use Rattle.std.specs.Prelude.{◌≡◌, ℕ, ◌+◌, ◌-◌, ◌*◌, ◌/◌, ◌^◌, min};
 
 // How many bits stand before the place.
-#[derive(Clone, Copy)]
+#[derive(Clone, Copy, Debug, PartialEq, Eq)]
 pub struct BitPlace {
     bits: usize,
 }
 
 // How many bytes stand before the place.
-#[derive(Clone, Copy)]
+#[derive(Clone, Copy, Debug, PartialEq, Eq)]
 pub struct BytePlace {
     bytes: usize,
 }
@@ -76,4 +76,11 @@ impl BytePlace {
             bits: self.bytes.saturating_mul(8),
         }
     }
+}
+
+// Where a reader stands: the place of the next field, and the first bit of the field last tried.
+#[derive(Clone, Copy, Debug, PartialEq, Eq)]
+pub struct Cursor {
+    pub at: BitPlace,
+    pub last: BitPlace,
 }

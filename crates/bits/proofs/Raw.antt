@@ -1,9 +1,11 @@
 -- Raw words, one by one and all together.
-use Rattle.std.proofs.Common.{◌≡◌, ℕ, zero, suc, ◌+◌, ◌*◌, ◌<◌, ◌≤◌, List, [], ◌∷◌, length, get_or, take, drop, sym, refl, ap, ◌∙◌, mul-zero, mul-suc, arith, length-append, length-drop}
-use Rattle.std.proofs.lemmas.List.{drop-drop}
-use Rattle.bits.specs.Bits.{bits, number, bits_of, bytes, field_at}
+use Rattle.std.proofs.Common.{◌≡◌, ℕ, zero, suc, ◌+◌, ◌*◌, ◌<◌, ◌≤◌, List, [], ◌∷◌, length, get_or, take, drop, sym, refl, ap, ◌∙◌, append-nil, mul-zero, mul-suc, arith, length-append, length-drop, length-take}
+use Rattle.std.proofs.lemmas.List.{drop-drop, take_at}
+use Rattle.bits.specs.Bits.{bits, number, bits_of, bytes, field_at, Bytes}
 use Rattle.bits.specs.Raw.{raw_words, raw_bytes}
-use Rattle.bits.proofs.Files.{drop-bits_of, length-bytes}
+use Rattle.bits.proofs.Files.{length-bits_of, take-bits_of, drop-bits_of, length-bytes}
+use Rattle.bits.proofs.Fields.{Bytes-take, Bytes-drop}
+use Rattle.bits.proofs.Places.{Bytes-at, field-eight}
 
 pub length-raw_words : (k n : ℕ) (raw : List ℕ) → length (raw_words k n raw) ≡ n
 unfolding raw_words
@@ -31,3 +33,27 @@ word_at k (suc n) raw (suc i) h l =
     let j : k * suc i ≡ k * i + k = mul-suc k i in
     let d : k * n ≤ length (drop k raw) = simp length-drop (omega arith) in
     word_at k n (drop k raw) i (omega arith) d ∙ field-drop raw k (8 * (k * i)) (8 * k) (omega arith) ∙ ap (λ z. field_at raw z (8 * k)) (omega arith)
+
+-- A part of a file
+module _ (f : List ℕ) (p n : ℕ) (h : p + n ≤ length f) where
+  pub part_length : length (take n (drop p f)) ≡ n
+  part_length = simp (length-take, length-drop) (omega arith)
+
+  -- a field is that of the part
+  pub field-part : field_at (take n (drop p f)) 0 (8 * n) ≡ field_at f (8 * p) (8 * n)
+  unfolding field_at
+  field-part =
+      let l : n ≤ length (drop p f) = simp length-drop (omega arith) in
+      let a : take (8 * n) (bits_of (drop p f)) ≡ bits_of (take n (drop p f)) = take-bits_of n (drop p f) l in
+      let b : drop (8 * p) (bits_of f) ≡ bits_of (drop p f) = drop-bits_of p f (omega arith) in
+      let k : length (bits_of (take n (drop p f))) ≡ 8 * n = length-bits_of (take n (drop p f)) ∙ ap (λ z. 8 * z) part_length in
+      let c : take (8 * n) (bits_of (take n (drop p f))) ≡ bits_of (take n (drop p f)) = ap (take (8 * n)) (sym (append-nil (bits_of (take n (drop p f))))) ∙ take_at (bits_of (take n (drop p f))) [] (8 * n) k in
+      ap number (c ∙ sym a ∙ ap (take (8 * n)) (sym b))
+
+-- eight bytes of a part, as one number
+pub part-eight : (f a : List ℕ) (p n : ℕ) → p + 8 ≤ length f → Bytes f → n ≡ 8 → a ≡ take n (drop p f) → (v : ℕ) → v ≡ get_or a 0 0 + get_or a 1 0 * 256 + get_or a 2 0 * 65536 + get_or a 3 0 * 16777216 + get_or a 4 0 * 4294967296 + get_or a 5 0 * 1099511627776 + get_or a 6 0 * 281474976710656 + get_or a 7 0 * 72057594037927936 → v ≡ field_at f (8 * p) 64
+part-eight f a p n h t m e v w =
+    let k : a ≡ take 8 (drop p f) = e ∙ ap (λ z. take z (drop p f)) m in
+    let l : length a ≡ 8 = ap length k ∙ part_length f p 8 h in
+    let b : Bytes a = rw k (Bytes-take 8 (drop p f) (Bytes-drop p f t)) in
+    w ∙ field-eight a 0 (omega arith) (λ i. Bytes-at a i b) ∙ ap (λ z. field_at z 0 64) k ∙ field-part f p 8 h

@@ -10,27 +10,13 @@ use Rattle.bits.proofs.Fields.{Bytes-take, Bytes-drop}
 use Rattle.bits.proofs.Laws.{put-stored}
 
 module _ (f : List ℕ) (p n : ℕ) (h : p + n ≤ length f) where
-  part_length : length (take n (drop p f)) ≡ n
-  part_length = simp (length-take, length-drop) (omega arith)
-
-  -- a field is that of the part
-  field-part : field_at (take n (drop p f)) 0 (8 * n) ≡ field_at f (8 * p) (8 * n)
-  unfolding field_at
-  field-part =
-      let l : n ≤ length (drop p f) = simp length-drop (omega arith) in
-      let a : take (8 * n) (bits_of (drop p f)) ≡ bits_of (take n (drop p f)) = take-bits_of n (drop p f) l in
-      let b : drop (8 * p) (bits_of f) ≡ bits_of (drop p f) = drop-bits_of p f (omega arith) in
-      let k : length (bits_of (take n (drop p f))) ≡ 8 * n = length-bits_of (take n (drop p f)) ∙ ap (λ z. 8 * z) part_length in
-      let c : take (8 * n) (bits_of (take n (drop p f))) ≡ bits_of (take n (drop p f)) = ap (take (8 * n)) (sym (append-nil (bits_of (take n (drop p f))))) ∙ take_at (bits_of (take n (drop p f))) [] (8 * n) k in
-      ap number (c ∙ sym a ∙ ap (take (8 * n)) (sym b))
-
   -- bits put into the part, and the part put back
   put-part : (ys : List ℕ) (v : ℕ) → Bytes f → ys ≡ put_bits (take n (drop p f)) 0 (bits (8 * n) v) → put_mid p n f ys ≡ put_bits f (8 * p) (bits (8 * n) v)
   unfolding stored
   put-part ys v b e =
-      let none : drop (0 + n) (take n (drop p f)) ≡ [] = drop_of_length-le (take n (drop p f)) {i = 0 + n} (omega (arith, part_length)) in
+      let none : drop (0 + n) (take n (drop p f)) ≡ [] = drop_of_length-le (take n (drop p f)) {i = 0 + n} (omega (arith, part_length f p n h)) in
       let a : put_bits (take n (drop p f)) 0 (bits (8 * n) v) ≡ bytes n (bits (8 * n) v) ++ drop (0 + n) (take n (drop p f)) =
-      put-stored (take n (drop p f)) 0 n v (omega (arith, part_length)) (Bytes-take n (drop p f) (Bytes-drop p f b)) in
+      put-stored (take n (drop p f)) 0 n v (omega (arith, part_length f p n h)) (Bytes-take n (drop p f) (Bytes-drop p f b)) in
       let w : ys ≡ bytes n (bits (8 * n) v) = e ∙ a ∙ ap (λ z. bytes n (bits (8 * n) v) ++ z) none ∙ append-nil (bytes n (bits (8 * n) v)) in
       ap (λ z. take p f ++ (z ++ drop n (drop p f))) w ∙ ap (λ z. take p f ++ (bytes n (bits (8 * n) v) ++ z)) (drop-drop n p f) ∙ sym (put-stored f p n v h b)
 

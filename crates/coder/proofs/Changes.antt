@@ -1,7 +1,11 @@
 -- The two changes, from what the code within and the arithmetic answer; v is the width as the code has it.
-use Rattle.std.proofs.Common.{◌≡◌, ℕ, ◌-◌, ◌%◌, ◌^◌, ◌<◌, ◌≤◌, Bool, true, false, ltb, List, None, Option, sym, ap, ◌∙◌, mod-eq_of_lt, arith}
+use Rattle.std.proofs.Common.{◌≡◌, ℕ, ◌-◌, ◌%◌, ◌^◌, ◌<◌, ◌≤◌, Bool, true, false, ltb, List, None, Option, Err, Result, refl, sym, ap, ◌∙◌, mod-eq_of_lt, arith}
 use Rattle.std.proofs.lemmas.Bool.{ltb-true, ltb-false}
 use Rattle.forms.specs.Coding.{Coding, Sound, encoded, Decoding, word, decoded}
+use Rattle.coder.specs.Told.{found}
+use Rattle.coder.specs.declared.form.Unread.{Unread}
+use Rattle.coder.specs.declared.form.Unread.TheVariants.{Dead, Partial}
+use Rattle.coder.specs.declared.step.Taken.{Taken}
 use Rattle.forms.specs.Coders.{minus, plus, rotr, turn, delta}
 use Rattle.forms.proofs.Changes.{moved, back, encoded-over, decoded-below, delta-encoded, delta-decoded, turn-encoded, turn-decoded}
 use Rattle.forms.proofs.Coders.{within}
@@ -10,6 +14,11 @@ use Rattle.forms.proofs.Modular.{rotr_mod}
 -- a number too large for a word
 pub over : {M : Type 0} {w : ℕ} (C : Coding M) → Sound w C → (m : M) (x v : ℕ) (r : Bool) → v ≡ w → r ≡ ltb x (2 ^ v) → r ≡ false → None ≡ encoded C m x
 over C K m x v r e a b = sym (encoded-over C K m x (rw (← e) (ltb-false x (2 ^ v) (sym a ∙ b))))
+
+-- what is not read within is not read
+pub unread : {M N : Type 0} (f : ℕ → ℕ) (g : ℕ → M → N) (u : Unread) → found {M = N} (Err u) ≡ back f g (found {M = M} (Err u))
+unread f g (Dead n) = refl
+unread f g Partial = refl
 
 module _ {M : Type 0} {w : ℕ} (C : Coding M) (sound : Sound w C) (v : ℕ) (e : v ≡ w) where
   a_word : (x : ℕ) (r : Bool) → r ≡ ltb x (2 ^ v) → r ≡ true → x < 2 ^ w
@@ -44,8 +53,8 @@ module _ {M : Type 0} {w : ℕ} (C : Coding M) (sound : Sound w C) (v : ℕ) (e 
         h ∙ ap (λ z. rotr z ((z - b % z) % z) (x % 2 ^ z)) e ∙ ap (rotr w ((w - b % w) % w)) (mod-eq_of_lt l) ∙ rotr_mod w (w - b % w) x some (omega (arith, by)) l in
         ap (λ z. word z n k) f ∙ ap (back (rotr w (w - b % w)) (λ z j. j)) i ∙ sym (turn-decoded C sound (b % w) by m bs)
 
-    pub turn-keeps : (m : M) (bs : List Bool) (o : Decoding M) → o ≡ decoded C m bs → back (rotr w (w - b % w)) (λ z j. j) o ≡ decoded (turn w (b % w) C) m bs
-    turn-keeps m bs o i = ap (back (rotr w (w - b % w)) (λ z j. j)) i ∙ sym (turn-decoded C sound (b % w) by m bs)
+    pub turn-unread : (m : M) (bs : List Bool) (u : Unread) (r : Result (Taken M) Unread) → found (Err u) ≡ decoded C m bs → r ≡ Err u → found r ≡ decoded (turn w (b % w) C) m bs
+    turn-unread m bs u r i h = ap found h ∙ unread (rotr w (w - b % w)) (λ z j. j) u ∙ ap (back (rotr w (w - b % w)) (λ z j. j)) i ∙ sym (turn-decoded C sound (b % w) by m bs)
 
-  pub delta-keeps : (m : ℕ × M) (bs : List Bool) (o : Decoding M) → o ≡ decoded C m.1 bs → back (plus w m.0) (λ z j. (z, j)) o ≡ decoded (delta w C) m bs
-  delta-keeps m bs o i = ap (back (plus w m.0) (λ z j. (z, j))) i ∙ sym (delta-decoded C sound m bs)
+  pub delta-unread : (m : ℕ × M) (bs : List Bool) (u : Unread) (r : Result (Taken (ℕ × M)) Unread) → found (Err u) ≡ decoded C m.1 bs → r ≡ Err u → found r ≡ decoded (delta w C) m bs
+  delta-unread m bs u r i h = ap found h ∙ unread (plus w m.0) (λ z j. (z, j)) u ∙ ap (back (plus w m.0) (λ z j. (z, j))) i ∙ sym (delta-decoded C sound m bs)

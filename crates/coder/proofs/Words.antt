@@ -1,13 +1,15 @@
 -- The step of one word, from what a coder and a field answer.
-use Rattle.std.proofs.Common.{◌≡◌, ℕ, ◌+◌, ◌*◌, ◌≤◌, Bool, true, false, cond, leb, List, length, Some, Option, sym, ap, ◌∙◌}
+use Rattle.std.proofs.Common.{◌≡◌, ℕ, ◌+◌, ◌*◌, ◌≤◌, Bool, true, false, cond, leb, List, length, Some, None, Option, sym, ap, ◌∙◌}
 use Rattle.std.proofs.lemmas.Bool.{le-leb}
 use Rattle.bits.specs.Bits.{bits, put_bits, field_at}
 use Rattle.bits.proofs.Numbers.{length-bits}
 use Rattle.faults.specs.Faults.{gives, fault}
 use Rattle.fields.specs.Fields.{is_field, within, remaining}
 use Rattle.fields.specs.declared.field.Window.{Window}
-use Rattle.forms.specs.Coding.{Coding, Sound, Decoding, decoded}
+use Rattle.forms.specs.Coding.{Coding, Sound, Decoding, decoded, encoded}
 use Rattle.forms.proofs.Windows.{decoded-window}
+use Rattle.coder.specs.Told.{wrote, form_bits}
+use Rattle.coder.specs.declared.form.Coded.{Coded}
 use Rattle.coder.specs.Steps.{laid, laid_bytes, seen, take_answer}
 
 -- a field of at most 64 bits is one where it lies within
@@ -42,3 +44,10 @@ module _ {M : Type 0} (n v : ℕ) (k : M) (o : Option (List Bool × M)) (e : Som
 pub looked : {M : Type 0} {w : ℕ} (C : Coding M) → Sound w C → (m : M) (f : List ℕ) (at : ℕ) (win : Window) → win.bits ≡ field_at f at 64 → win.len ≡ remaining at (length f) →
     (o : Decoding M) → o ≡ decoded C m (bits win.len win.bits) → seen at o ≡ take_answer C m f at
 looked C K m f at win a b o e = ap (seen at) (e ∙ decoded-window C K m f at win.len win.bits a b)
+
+-- a form that was asked for
+pub given-form : {M : Type 0} (C : Coding M) (m : M) (x : ℕ) (o : Option (Coded M)) (d : Coded M) → wrote o ≡ encoded C m x → o ≡ Some d → Some (form_bits d.form, d.next) ≡ encoded C m x
+given-form C m x o d a h = sym (ap wrote h) ∙ a
+
+pub no_form : {M : Type 0} (C : Coding M) (m : M) (x : ℕ) (o : Option (Coded M)) → wrote o ≡ encoded C m x → o ≡ None → None ≡ encoded C m x
+no_form C m x o a h = sym (ap wrote h) ∙ a

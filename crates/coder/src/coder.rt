@@ -4,7 +4,8 @@ ghost use Rattle.bits.specs.Bits.{bits};
 ghost use Rattle.forms.specs.Coding.{Coding, Sound, encoded, decoded};
 ghost use Rattle.coder.specs.Told.{wrote, found};
 
-use crate::form::{Coded, Decoded};
+use crate::form::{Coded, Unread};
+use crate::step::Taken;
 use crate::width::Width;
 use fields::field::Window;
 
@@ -36,7 +37,7 @@ pub trait Coder {
     fn encode(&self, memory: Self::Memory, word: u32) -> Option<Coded<Self::Memory>>
         ensures { wrote result ≡ encoded (coding self.now) memory word };
 
-    // What stands at the front of the bits that remain.
-    fn decode(&self, memory: Self::Memory, window: Window) -> Decoded<Self::Memory>
+    // The word whose form stands at the front of the bits that remain.
+    fn decode(&self, memory: Self::Memory, window: Window) -> Result<Taken<Self::Memory>, Unread>
         ensures { found result ≡ decoded (coding self.now) memory (bits window.len window.bits) };
 }

@@ -4,8 +4,9 @@ ghost use Rattle.forms.specs.Coders.{delta};
 ghost use Rattle.forms.proofs.Coders.{delta-sound};
 
 use crate::coder::Coder;
-use crate::form::{Coded, Decoded};
+use crate::form::{Coded, Unread};
 use crate::modular::{difference, is_word, sum};
+use crate::step::Taken;
 use crate::width::Width;
 use fields::field::Window;
 
@@ -42,30 +43,26 @@ impl<C: Coder> Coder for Delta<C> {
         if !is_word(word, width) {
             return None;
         }
-        match self
+        let coded = self
             .inner
-            .encode(memory.1, difference(word, memory.0, width))
-        {
-            None => None,
-            Some(coded) => Some(Coded {
-                form: coded.form,
-                next: (word, coded.next),
-            }),
-        }
+            .encode(memory.1, difference(word, memory.0, width))?;
+        Some(Coded {
+            form: coded.form,
+            next: (word, coded.next),
+        })
     }
 
-    fn decode(&self, memory: (u32, C::Memory), window: Window) -> Decoded<(u32, C::Memory)> {
-        match self.inner.decode(memory.1, window) {
-            Decoded::Word { word, len, next } => {
-                let word = sum(word, memory.0, self.inner.word_width());
-                Decoded::Word {
-                    word,
-                    len,
-                    next: (word, next),
-                }
-            }
-            Decoded::Dead { len } => Decoded::Dead { len },
-            Decoded::Partial => Decoded::Partial,
-        }
+    fn decode(
+        &self,
+        memory: (u32, C::Memory),
+        window: Window,
+    ) -> Result<Taken<(u32, C::Memory)>, Unread> {
+        let inner = self.inner.decode(memory.1, window)?;
+        let word = sum(inner.word, memory.0, self.inner.word_width());
+        Ok(Taken {
+            word,
+            len: inner.len,
+            next: (word, inner.next),
+        })
     }
 }

@@ -1,7 +1,7 @@
 // What passes between a coder and a buffer.
 
 // A form: `len` bits, the lowest first, which are the low bits of a number.
-#[derive(Clone, Copy)]
+#[derive(Clone, Copy, Debug, PartialEq, Eq)]
 pub struct Form {
     pub bits: u64,
     pub len: u32,
@@ -14,11 +14,9 @@ pub struct Coded<M> {
     pub next: M,
 }
 
-// What stands at the front of some bits: a word, whose form has `len` bits, and the memory behind it;
-// a dead form; or a proper beginning of a form.
-#[derive(Clone, Copy)]
-pub enum Decoded<M> {
-    Word { word: u32, len: u32, next: M },
+// Why no word is read at the front of some bits: a dead form of `len` bits stands there, or a proper beginning of a form.
+#[derive(Clone, Copy, Debug, PartialEq, Eq)]
+pub enum Unread {
     Dead { len: u32 },
     Partial,
 }

@@ -1,4 +1,4 @@
-// What the step of one word answers.
+// What the step of one word answers. M is what is known behind the word.
 
 // A word was put: its form has so many bits, and this is the memory behind it.
 #[derive(Clone, Copy)]

@@ -4,7 +4,7 @@ ghost use Rattle.faults.specs.Faults.{answered};
 ghost use Rattle.coder.specs.Steps.{put_answer, put_bytes, put_parts, take_answer, taken_parts};
 
 use crate::coder::Coder;
-use crate::form::Decoded;
+use crate::form::Unread;
 use crate::step::{Put, Taken};
 use faults::kind::{Fault, Kind};
 use fields::field::{put_field, window_at};
@@ -21,24 +21,14 @@ pub fn put_word<C: Coder>(
     ensures answer { answered put_parts result ≡ put_answer (C.Coder.coding coder.now) memory word at.bits (length buffer.old) }
     ensures bytes { buffer.new ≡ put_bytes (C.Coder.coding coder.now) memory word at.bits buffer.old }
 {
-    match coder.encode(memory, word) {
-        None => Err(Fault {
-            kind: Kind::NoForm,
-            place: at,
-        }),
-        Some(coded) => {
-            if !put_field(buffer, at, coded.form.bits, coded.form.len) {
-                return Err(Fault {
-                    kind: Kind::OutputTooShort,
-                    place: at,
-                });
-            }
-            Ok(Put {
-                len: coded.form.len,
-                next: coded.next,
-            })
-        }
+    let coded = coder.encode(memory, word).ok_or(Kind::NoForm.at(at))?;
+    if !put_field(buffer, at, coded.form.bits, coded.form.len) {
+        return Err(Kind::OutputTooShort.at(at));
     }
+    Ok(Put {
+        len: coded.form.len,
+        next: coded.next,
+    })
 }
 
 // Reads the word whose form begins at a place.
@@ -51,14 +41,8 @@ pub fn take_word<C: Coder>(
     ensures { answered taken_parts result ≡ take_answer (C.Coder.coding coder.now) memory file.now at.bits }
 {
     match coder.decode(memory, window_at(file, at)) {
-        Decoded::Word { word, len, next } => Ok(Taken { word, len, next }),
-        Decoded::Dead { len: _ } => Err(Fault {
-            kind: Kind::DeadForm,
-            place: at,
-        }),
-        Decoded::Partial => Err(Fault {
-            kind: Kind::InputEnds,
-            place: at,
-        }),
+        Ok(taken) => Ok(taken),
+        Err(Unread::Dead { len: _ }) => Err(Kind::DeadForm.at(at)),
+        Err(Unread::Partial) => Err(Kind::InputEnds.at(at)),
     }
 }

@@ -4,8 +4,9 @@ ghost use Rattle.forms.specs.Coders.{turn};
 ghost use Rattle.forms.proofs.Coders.{turn-sound, within};
 
 use crate::coder::Coder;
-use crate::form::{Coded, Decoded};
+use crate::form::{Coded, Unread};
 use crate::modular::{is_word, rotated};
+use crate::step::Taken;
 use crate::width::Width;
 use fields::field::Window;
 
@@ -45,18 +46,12 @@ impl<C: Coder> Coder for Turn<C> {
         self.inner.encode(memory, rotated(word, self.by, width))
     }
 
-    fn decode(&self, memory: C::Memory, window: Window) -> Decoded<C::Memory> {
-        match self.inner.decode(memory, window) {
-            Decoded::Word { word, len, next } => {
-                let width = self.inner.word_width();
-                Decoded::Word {
-                    word: rotated(word, width.bits - self.by % width.bits, width),
-                    len,
-                    next,
-                }
-            }
-            Decoded::Dead { len } => Decoded::Dead { len },
-            Decoded::Partial => Decoded::Partial,
-        }
+    fn decode(&self, memory: C::Memory, window: Window) -> Result<Taken<C::Memory>, Unread> {
+        let inner = self.inner.decode(memory, window)?;
+        let width = self.inner.word_width();
+        Ok(Taken {
+            word: rotated(inner.word, width.bits - self.by % width.bits, width),
+            ..inner
+        })
     }
 }

@@ -1,7 +1,7 @@
 // The width of words in bits.
 ghost use Rattle.std.specs.Prelude.{◌≡◌, ℕ, ◌+◌, ◌/◌, ◌<◌, ◌≤◌};
 
-#[derive(Clone, Copy)]
+#[derive(Clone, Copy, Debug, PartialEq, Eq)]
 pub struct Width {
     pub bits: u32,
     ghost some: { 0 < bits },
@@ -13,6 +13,6 @@ impl Width {
     pub fn bytes(self) -> u32
         ensures { result ≡ (self.bits + 7) / 8 }
     {
-        (self.bits + 7) / 8
+        self.bits.div_ceil(8)
     }
 }

@@ -4,7 +4,8 @@ ghost use Rattle.coders.specs.Chosen.{coding_of, sound_of, fits_of};
 
 use crate::kinds::Algorithm;
 use coder::coder::Coder;
-use coder::form::{Coded, Decoded};
+use coder::form::{Coded, Unread};
+use coder::step::Taken;
 use coder::width::Width;
 use fields::field::Window;
 
@@ -39,7 +40,7 @@ impl<const W: u32> Coder for Algorithm<W> {
         }
     }
 
-    fn decode(&self, memory: (), window: Window) -> Decoded<()> {
+    fn decode(&self, memory: (), window: Window) -> Result<Taken<()>, Unread> {
         match self {
             Algorithm::Null(c) => c.decode(memory, window),
             Algorithm::Constant(c) => c.decode(memory, window),

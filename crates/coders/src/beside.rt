@@ -4,7 +4,8 @@ ghost use Rattle.forms.specs.Coders.{beside};
 ghost use Rattle.forms.proofs.Coders.{beside-sound};
 
 use coder::coder::Coder;
-use coder::form::{Coded, Decoded};
+use coder::form::{Coded, Unread};
+use coder::step::Taken;
 use coder::width::Width;
 use fields::field::Window;
 
@@ -36,24 +37,23 @@ impl<C: Coder> Coder for Beside<C> {
     }
 
     fn encode(&self, memory: (u32, C::Memory), word: u32) -> Option<Coded<(u32, C::Memory)>> {
-        match self.inner.encode(memory.1, word) {
-            None => None,
-            Some(coded) => Some(Coded {
-                form: coded.form,
-                next: (memory.0, coded.next),
-            }),
-        }
+        let coded = self.inner.encode(memory.1, word)?;
+        Some(Coded {
+            form: coded.form,
+            next: (memory.0, coded.next),
+        })
     }
 
-    fn decode(&self, memory: (u32, C::Memory), window: Window) -> Decoded<(u32, C::Memory)> {
-        match self.inner.decode(memory.1, window) {
-            Decoded::Word { word, len, next } => Decoded::Word {
-                word,
-                len,
-                next: (memory.0, next),
-            },
-            Decoded::Dead { len } => Decoded::Dead { len },
-            Decoded::Partial => Decoded::Partial,
-        }
+    fn decode(
+        &self,
+        memory: (u32, C::Memory),
+        window: Window,
+    ) -> Result<Taken<(u32, C::Memory)>, Unread> {
+        let taken = self.inner.decode(memory.1, window)?;
+        Ok(Taken {
+            word: taken.word,
+            len: taken.len,
+            next: (memory.0, taken.next),
+        })
     }
 }

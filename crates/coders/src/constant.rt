@@ -6,7 +6,8 @@ ghost use Rattle.forms.proofs.Coders.{constant-rules};
 
 use crate::kinds::Constant;
 use coder::coder::Coder;
-use coder::form::{Coded, Decoded, Form};
+use coder::form::{Coded, Form, Unread};
+use coder::step::Taken;
 use coder::width::Width;
 use fields::field::Window;
 
@@ -51,11 +52,11 @@ impl<const W: u32> Coder for Constant<W> {
         })
     }
 
-    fn decode(&self, memory: (), window: Window) -> Decoded<()> {
-        Decoded::Word {
+    fn decode(&self, memory: (), window: Window) -> Result<Taken<()>, Unread> {
+        Ok(Taken {
             word: self.word,
             len: 0,
             next: memory,
-        }
+        })
     }
 }

@@ -2,18 +2,35 @@
 ghost use Rattle.std.specs.Prelude.{◌≡◌};
 ghost use Rattle.forms.specs.Coders.{delta_if};
 ghost use Rattle.forms.proofs.Coders.{delta_if-sound};
+ghost use Rattle.coders.specs.Flagged.{is_on, inner_of};
 
+use crate::beside::Beside;
 use coder::coder::Coder;
 use coder::delta::Delta;
-use coder::form::{Coded, Decoded};
+use coder::form::{Coded, Unread};
+use coder::step::Taken;
 use coder::width::Width;
 use fields::field::Window;
 
 // The delta where it is on; else the coder within, and the memory of the delta stays.
 #[derive(Clone, Copy)]
-pub struct FlaggedDelta<C> {
-    pub delta: Delta<C>,
-    pub on: bool,
+pub enum FlaggedDelta<C> {
+    On(Delta<C>),
+    Off(Beside<C>),
+}
+
+impl<C> FlaggedDelta<C> {
+    // The delta of a coder, on or off.
+    pub fn new(inner: C, on: bool) -> FlaggedDelta<C>
+        ensures on { is_on result ≡ on }
+        ensures inner { inner_of result ≡ inner }
+    {
+        if on {
+            FlaggedDelta::On(Delta { inner })
+        } else {
+            FlaggedDelta::Off(Beside { inner })
+        }
+    }
 }
 
 impl<C: Coder> Coder for FlaggedDelta<C> {
@@ -21,47 +38,43 @@ impl<C: Coder> Coder for FlaggedDelta<C> {
 
     const WIDTH: u32 = C::WIDTH;
 
-    ghost wide = { λ c. C.Coder.wide c.delta.inner };
+    ghost wide = { λ c. C.Coder.wide (inner_of c) };
 
-    ghost coding = { λ c. delta_if (C.Coder.wide c.delta.inner) c.on (C.Coder.coding c.delta.inner) };
+    ghost coding = { λ c. delta_if (C.Coder.wide (inner_of c)) (is_on c) (C.Coder.coding (inner_of c)) };
 
-    ghost sound = { λ c. delta_if-sound (C.Coder.wide c.delta.inner) c.on (C.Coder.coding c.delta.inner) (C.Coder.sound c.delta.inner) };
+    ghost sound = { λ c. delta_if-sound (C.Coder.wide (inner_of c)) (is_on c) (C.Coder.coding (inner_of c)) (C.Coder.sound (inner_of c)) };
 
-    ghost fits = { λ c. C.Coder.fits c.delta.inner };
+    ghost fits = { λ c. C.Coder.fits (inner_of c) };
 
     fn word_width(&self) -> Width {
-        self.delta.word_width()
+        match self {
+            FlaggedDelta::On(delta) => delta.word_width(),
+            FlaggedDelta::Off(beside) => beside.word_width(),
+        }
     }
 
     fn start(&self) -> (u32, C::Memory) {
-        self.delta.start()
+        match self {
+            FlaggedDelta::On(delta) => delta.start(),
+            FlaggedDelta::Off(beside) => beside.start(),
+        }
     }
 
     fn encode(&self, memory: (u32, C::Memory), word: u32) -> Option<Coded<(u32, C::Memory)>> {
-        if self.on {
-            return self.delta.encode(memory, word);
-        }
-        match self.delta.inner.encode(memory.1, word) {
-            None => None,
-            Some(coded) => Some(Coded {
-                form: coded.form,
-                next: (memory.0, coded.next),
-            }),
+        match self {
+            FlaggedDelta::On(delta) => delta.encode(memory, word),
+            FlaggedDelta::Off(beside) => beside.encode(memory, word),
         }
     }
 
-    fn decode(&self, memory: (u32, C::Memory), window: Window) -> Decoded<(u32, C::Memory)> {
-        if self.on {
-            return self.delta.decode(memory, window);
-        }
-        match self.delta.inner.decode(memory.1, window) {
-            Decoded::Word { word, len, next } => Decoded::Word {
-                word,
-                len,
-                next: (memory.0, next),
-            },
-            Decoded::Dead { len } => Decoded::Dead { len },
-            Decoded::Partial => Decoded::Partial,
+    fn decode(
+        &self,
+        memory: (u32, C::Memory),
+        window: Window,
+    ) -> Result<Taken<(u32, C::Memory)>, Unread> {
+        match self {
+            FlaggedDelta::On(delta) => delta.decode(memory, window),
+            FlaggedDelta::Off(beside) => beside.decode(memory, window),
         }
     }
 }

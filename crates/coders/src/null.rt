@@ -5,8 +5,9 @@ ghost use Rattle.forms.proofs.Coders.{null-rules};
 
 use crate::kinds::Null;
 use coder::coder::Coder;
-use coder::form::{Coded, Decoded, Form};
+use coder::form::{Coded, Form, Unread};
 use coder::modular::is_word;
+use coder::step::Taken;
 use coder::width::Width;
 use fields::field::Window;
 
@@ -54,14 +55,14 @@ impl<const W: u32> Coder for Null<W> {
         })
     }
 
-    fn decode(&self, memory: (), window: Window) -> Decoded<()> {
+    fn decode(&self, memory: (), window: Window) -> Result<Taken<()>, Unread> {
         if window.len < W {
-            return Decoded::Partial;
+            return Err(Unread::Partial);
         }
-        Decoded::Word {
+        Ok(Taken {
             word: (window.bits & ((1u64 << W) - 1)) as u32,
             len: W,
             next: memory,
-        }
+        })
     }
 }

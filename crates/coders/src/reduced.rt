@@ -6,8 +6,9 @@ ghost use Rattle.forms.proofs.Coders.{reduced-rules};
 
 use crate::kinds::Reduced;
 use coder::coder::Coder;
-use coder::form::{Coded, Decoded, Form};
+use coder::form::{Coded, Form, Unread};
 use coder::modular::{difference, is_word, sum};
+use coder::step::Taken;
 use coder::width::Width;
 use fields::field::Window;
 
@@ -63,33 +64,32 @@ impl<const W: u32> Coder for Reduced<W> {
         Some(Coded { form, next: memory })
     }
 
-    fn decode(&self, memory: (), window: Window) -> Decoded<()> {
+    fn decode(&self, memory: (), window: Window) -> Result<Taken<()>, Unread> {
         if window.len < self.narrow {
-            return Decoded::Partial;
+            return Err(Unread::Partial);
         }
         let width = self.word_width();
         let ones = (1u64 << self.narrow) - 1;
         let above = window.bits & ones;
         if above < ones {
-            return Decoded::Word {
+            return Ok(Taken {
                 word: sum(above as u32, self.pedestal, width),
                 len: self.narrow,
                 next: memory,
-            };
+            });
         }
         let len = self.narrow + W;
         if window.len < len {
-            return Decoded::Partial;
+            return Err(Unread::Partial);
         }
         let word = ((window.bits >> self.narrow) & ((1u64 << W) - 1)) as u32;
         if (difference(word, self.pedestal, width) as u64) < ones {
-            Decoded::Dead { len }
-        } else {
-            Decoded::Word {
-                word,
-                len,
-                next: memory,
-            }
+            return Err(Unread::Dead { len });
         }
+        Ok(Taken {
+            word,
+            len,
+            next: memory,
+        })
     }
 }

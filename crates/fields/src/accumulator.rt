@@ -5,7 +5,7 @@ ghost use Rattle.fields.specs.Fields.{is_field, held, held_end};
 
 use crate::bytes::are_bytes;
 use crate::place::BitPlace;
-use crate::word::{lies_within, low, put_by_bytes, store};
+use crate::word::{lies_within, low, put_by_bytes, reaches, store};
 
 // The bits that wait, `have` of them in `word`; the first belongs at the byte `place`.
 #[derive(Clone, Copy)]
@@ -46,7 +46,7 @@ impl Accumulator {
         ensures end { held_end self.new.place self.new.have ≡ (if result then held_end self.old.place self.old.have + count else held_end self.old.place self.old.have) }
         ensures refused { result ≡ false → buffer.new ≡ buffer.old }
     {
-        if count > 64 || !reaches(self.place, self.have + count, buffer.len()) {
+        if count > 64 || !reaches(self.place, (self.have + count) as usize, buffer.len()) {
             return false;
         }
         are_bytes(buffer);
@@ -77,21 +77,10 @@ impl Accumulator {
         ensures finished { result ≡ nat_le (held_end self.place self.have) (8 * length buffer.old) }
         ensures bytes { buffer.new ≡ (if leb (held_end self.place self.have) (8 * length buffer.old) then held buffer.old self.place self.word self.have else buffer.old) }
     {
-        if !reaches(self.place, self.have, buffer.len()) {
+        if !reaches(self.place, self.have as usize, buffer.len()) {
             return false;
         }
         put_by_bytes(buffer, self.place, 0, self.word, self.have);
         true
     }
-}
-
-// Do so many bits from a byte's place on lie within so many bytes?
-fn reaches(place: usize, count: u32, size: usize) -> bool
-    ensures { result ≡ nat_le (8 * place + count) (8 * size) }
-{
-    if place > size {
-        return false;
-    }
-    let rest = size - place;
-    rest > 0xffff_ffff || count as usize <= 8 * rest
 }

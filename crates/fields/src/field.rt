@@ -72,8 +72,7 @@ fn remaining_at(size: usize, at: usize) -> u32
     if p + 9 <= size {
         64
     } else if p < size {
-        let rest = 8 * (size - p) - at % 8;
-        if rest < 64 { rest as u32 } else { 64 }
+        (8 * (size - p) - at % 8).min(64) as u32
     } else {
         0
     }

@@ -48,9 +48,8 @@ impl BitPlace {
     pub fn whole_byte(self) -> BytePlace
         ensures { result.bytes ≡ (self.bits + 7) / 8 }
     {
-        let bytes = self.bits / 8;
         BytePlace {
-            bytes: if self.bits % 8 == 0 { bytes } else { bytes + 1 },
+            bytes: self.bits.div_ceil(8),
         }
     }
 }

@@ -1,18 +1,20 @@
 // Whole bytes and 64-bit words of a buffer.
-ghost use Rattle.std.specs.Prelude.{◌≡◌, ℕ, ◌+◌, ◌*◌, ◌/◌, ◌%◌, ◌^◌, ◌<◌, ◌≤◌, length, replicate};
+ghost use Rattle.std.specs.Prelude.{◌≡◌, ℕ, ◌+◌, ◌*◌, ◌/◌, ◌%◌, ◌^◌, ◌<◌, ◌≤◌, length, nat_le, replicate};
 ghost use Rattle.bits.specs.Bits.{bits, bits_of, overwritten, stored, field_at};
 ghost use Rattle.fields.specs.Fields.{within};
+
+// Do so many bits from a byte's first on lie within so many bytes?
+pub(crate) fn reaches(place: usize, count: usize, size: usize) -> bool
+    ensures { result ≡ nat_le (8 * place + count) (8 * size) }
+{
+    place <= size && count.div_ceil(8) <= size - place
+}
 
 // Do the bits lie within so many bytes?
 pub(crate) fn lies_within(at: usize, count: u32, size: usize) -> bool
     ensures { result ≡ within at count size }
 {
-    let p = at / 8;
-    if p > size {
-        return false;
-    }
-    let rest = size - p;
-    rest > 0xffff_ffff || at % 8 + count as usize <= 8 * rest
+    reaches(at / 8, at % 8 + count as usize, size)
 }
 
 // The low bits of a value.
@@ -42,16 +44,7 @@ pub(crate) fn load(file: &[u8], p: usize) -> u64
     requires { p + 8 ≤ length file.now }
     ensures { result ≡ field_at file.now (8 * p) 64 }
 {
-    u64::from_le_bytes([
-        file[p],
-        file[p + 1],
-        file[p + 2],
-        file[p + 3],
-        file[p + 4],
-        file[p + 5],
-        file[p + 6],
-        file[p + 7],
-    ])
+    u64::from_le_bytes(file[p..p + 8].try_into().unwrap())
 }
 
 // A number as eight bytes.
@@ -70,8 +63,7 @@ pub(crate) fn put_by_bytes(buffer: &mut [u8], p: usize, shift: u32, value: u64, 
     if count == 0 {
         return;
     }
-    let room = 8 - shift;
-    let part = if count < room { count } else { room };
+    let part = count.min(8 - shift);
     buffer[p] = merged(buffer[p] as u64, shift, value, part) as u8;
     if part < count {
         put_by_bytes(buffer, p + 1, 0, value >> part, count - part);
@@ -86,8 +78,7 @@ pub(crate) fn take_by_bytes(file: &[u8], p: usize, shift: u32, count: u32) -> u6
     if count == 0 || p >= file.len() {
         return 0;
     }
-    let room = 8 - shift;
-    let part = if count < room { count } else { room };
+    let part = count.min(8 - shift);
     let bits = low((file[p] >> shift) as u64, part);
     if part < count {
         bits | (take_by_bytes(file, p + 1, 0, count - part) << part)
@@ -100,7 +91,5 @@ pub(crate) fn take_by_bytes(file: &[u8], p: usize, shift: u32, count: u32) -> u6
 pub(crate) fn zero(part: &mut [u8])
     ensures { part.new ≡ replicate (length part.old) 0 }
 {
-    for byte in part.iter_mut() {
-        *byte = 0;
-    }
+    part.fill(0);
 }

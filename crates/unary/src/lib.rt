@@ -7,8 +7,9 @@ ghost use Rattle.unary.specs.Unary.{unary};
 ghost use Rattle.unary.specs.Sound.{unary-sound};
 
 use coder::coder::Coder;
-use coder::form::{Coded, Decoded, Form};
+use coder::form::{Coded, Form, Unread};
 use coder::laws::coder_laws;
+use coder::step::Taken;
 use coder::width::Width;
 use fields::field::Window;
 
@@ -63,43 +64,42 @@ impl Coder for Unary {
         Some(Coded { form, next: large })
     }
 
-    fn decode(&self, memory: bool, window: Window) -> Decoded<bool> {
+    fn decode(&self, memory: bool, window: Window) -> Result<Taken<bool>, Unread> {
         if memory {
             if window.len < 4 {
-                return Decoded::Partial;
+                return Err(Unread::Partial);
             }
             let word = (window.bits & 15) as u32;
-            return Decoded::Word {
+            return Ok(Taken {
                 word,
                 len: 4,
                 next: word >= 7,
-            };
+            });
         }
         for ones in 0..7u32 {
             if window.len <= ones {
-                return Decoded::Partial;
+                return Err(Unread::Partial);
             }
             if (window.bits >> ones) & 1 == 0 {
-                return Decoded::Word {
+                return Ok(Taken {
                     word: ones,
                     len: ones + 1,
                     next: false,
-                };
+                });
             }
         }
         if window.len < 11 {
-            return Decoded::Partial;
+            return Err(Unread::Partial);
         }
         let word = ((window.bits >> 7) & 15) as u32;
         if word < 7 {
-            Decoded::Dead { len: 11 }
-        } else {
-            Decoded::Word {
-                word,
-                len: 11,
-                next: true,
-            }
+            return Err(Unread::Dead { len: 11 });
         }
+        Ok(Taken {
+            word,
+            len: 11,
+            next: true,
+        })
     }
 }
 

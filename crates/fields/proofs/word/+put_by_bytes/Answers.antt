@@ -4,7 +4,6 @@ use Rattle.bits.proofs.Files.{length-bits_of}
 use Rattle.bits.proofs.Fields.{merged-lt}
 use Rattle.bits.proofs.Places.{put-none, put-more, put_byte}
 use Rattle.fields.proofs.word.+put_by_bytes.Goals as goal
-use Rattle.fields.proofs.word.+put_by_bytes.Goals.{then-count-room, else-count-room}
 
 pub returns-then-count-eq0 : goal.returns-then-count-eq0
 returns-then-count-eq0 t c = put-none c.args.buffer.now (8 * c.args.p + c.args.shift) c.args.count c.args.value c.if-count-eq0.true
@@ -13,8 +12,8 @@ pub overflow_cast-buffer-2 : goal.overflow_cast-buffer-2
 overflow_cast-buffer-2 t c =
     let x : ℕ = get_or c.args.buffer.now c.args.p 0 in
     let s : ℕ = c.args.shift in
-    let k : ℕ = c.if-count-room.part in
-    let r : s + k ≤ 8 = elim c.if-count-room.branch [ then-count-room w ↦ omega (arith, w.part-is) | else-count-room w ↦ omega (arith, w.part-is) ] in
+    let k : ℕ = c.min-part.result in
+    let r : s + k ≤ 8 = omega (arith, c.min-part.ensures) in
     let l : x < 2 ^ 8 = omega arith in
     omega (arith, merged-lt 8 x s c.args.value k r l, c.merged.ensures)
 
@@ -29,10 +28,10 @@ returns-then-part-count t c =
     let s : ℕ = c.args.shift in
     let n : ℕ = c.args.count in
     let v : ℕ = c.args.value in
-    let k : ℕ = c.if-count-room.part in
+    let k : ℕ = c.min-part.result in
     let r : ℕ = c.merged.result in
-    let m : s + k ≤ 8 = elim c.if-count-room.branch [ then-count-room w ↦ omega (arith, w.part-is) | else-count-room w ↦ omega (arith, w.part-is) ] in
-    let m2 : s + k ≡ 8 = elim c.if-count-room.branch [ then-count-room w ↦ omega (arith, w.part-is) | else-count-room w ↦ omega (arith, w.part-is) ] in
+    let m : s + k ≤ 8 = omega (arith, c.min-part.ensures) in
+    let m2 : s + k ≡ 8 = omega (arith, c.min-part.ensures) in
     let z : 0 < n = omega arith in
     let l : 8 * p + s + n ≤ 8 * length f = omega arith in
     let b : bits_of (set f p r) ≡ overwritten (bits_of f) (8 * p + s) (bits k v) = byte f p s n v k r (omega arith) l z m c.merged.ensures in
@@ -49,10 +48,10 @@ returns-else-part-count t c =
     let s : ℕ = c.args.shift in
     let n : ℕ = c.args.count in
     let v : ℕ = c.args.value in
-    let k : ℕ = c.if-count-room.part in
+    let k : ℕ = c.min-part.result in
     let r : ℕ = c.merged.result in
-    let m : s + k ≤ 8 = elim c.if-count-room.branch [ then-count-room w ↦ omega (arith, w.part-is) | else-count-room w ↦ omega (arith, w.part-is) ] in
-    let q : k ≡ n = elim c.if-count-room.branch [ then-count-room w ↦ omega (arith, w.part-is) | else-count-room w ↦ omega (arith, w.part-is) ] in
+    let m : s + k ≤ 8 = omega (arith, c.min-part.ensures) in
+    let q : k ≡ n = omega (arith, c.min-part.ensures) in
     let z : 0 < n = omega arith in
     let l : 8 * p + s + n ≤ 8 * length f = omega arith in
     let b : bits_of (set f p r) ≡ overwritten (bits_of f) (8 * p + s) (bits k v) = byte f p s n v k r (omega arith) l z m c.merged.ensures in

@@ -59,8 +59,8 @@ returns-then-word-lt7 c =
     reads c.args.memory false (bits a.len a.bits) (form None 11) c.if-memory.false
     (c.loop-ones.invariant ∙ ap (rest a.len a.bits) e ∙ large-dead a.len a.bits c.if-window-lt11.false d)
 
-pub returns-else-word-lt7 : goal.returns-else-word-lt7
-returns-else-word-lt7 c =
+pub returns : goal.returns
+returns c =
     let a = c.args.window in
     let e : c.loop-ones.ones ≡ 7 = omega arith in
     let d : ℕ = bit_and (a.bits / 128) 15 in

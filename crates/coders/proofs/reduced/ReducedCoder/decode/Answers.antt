@@ -54,8 +54,8 @@ returns-then-difference-ones g c =
     let k : minus W s.pedestal ((x / 2 ^ R) % 2 ^ W) < 2 ^ R - 1 = omega (arith, d, o, c.if-difference-ones.true) in
     plain-dead (reduced W R s.pedestal) c.args.memory (bits a.len x) (R + W) (reduced-dead W R s.pedestal a.len x c.if-window-len.false l k)
 
-pub returns-else-difference-ones : goal.returns-else-difference-ones
-returns-else-difference-ones g c =
+pub returns : goal.returns
+returns g c =
     let s = c.args.self.now in
     let W : ℕ = g.row.W in
     let R : ℕ = s.narrow in

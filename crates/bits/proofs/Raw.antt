@@ -1,8 +1,9 @@
 -- Raw words, one by one and all together.
-use Rattle.std.proofs.Common.{◌≡◌, ℕ, zero, suc, ◌+◌, ◌*◌, ◌<◌, ◌≤◌, List, [], ◌∷◌, length, get_or, take, drop, sym, refl, ap, ◌∙◌, append-nil, mul-zero, mul-suc, arith, length-append, length-drop, length-take}
+use Rattle.std.proofs.Common.{◌≡◌, ℕ, zero, suc, ◌+◌, ◌-◌, ◌*◌, ◌/◌, ◌<◌, ◌≤◌, List, [], ◌∷◌, length, get_or, take, drop, sym, refl, ap, ◌∙◌, append-nil, mul-zero, mul-suc, arith, length-append, length-drop, length-take}
+use native.Mathlib.Nat.{div-eq_of_lt, div-eq-sub-div}
 use Rattle.std.proofs.lemmas.List.{drop-drop, take_at}
 use Rattle.bits.specs.Bits.{bits, number, bits_of, bytes, field_at, Bytes}
-use Rattle.bits.specs.Raw.{raw_words, raw_bytes}
+use Rattle.bits.specs.Raw.{raw_words, raw_bytes, words_in}
 use Rattle.bits.proofs.Files.{length-bits_of, take-bits_of, drop-bits_of, length-bytes}
 use Rattle.bits.proofs.Fields.{Bytes-take, Bytes-drop}
 use Rattle.bits.proofs.Places.{Bytes-at, field-eight}
@@ -57,3 +58,17 @@ part-eight f a p n h t m e v w =
     let l : length a ≡ 8 = ap length k ∙ part_length f p 8 h in
     let b : Bytes a = rw k (Bytes-take 8 (drop p f) (Bytes-drop p f t)) in
     w ∙ field-eight a 0 (omega arith) (λ i. Bytes-at a i b) ∙ ap (λ z. field_at z 0 64) k ∙ field-part f p 8 h
+
+-- the whole words of raw bytes: none where a word does not fit, and else the first and those behind it
+pub words-none : (k : ℕ) (raw : List ℕ) → length raw < k → words_in k raw ≡ []
+unfolding raw_words
+words-none k raw h = ap (λ n. raw_words k n raw) (div-eq_of_lt h)
+
+pub words_more : (k : ℕ) (raw : List ℕ) → 1 ≤ k → k ≤ length raw → words_in k raw ≡ field_at raw 0 (8 * k) ∷ words_in k (drop k raw)
+unfolding raw_words
+words_more k raw s h =
+    let d : length raw - k ≡ length (drop k raw) = simp length-drop refl in
+    ap (λ z. raw_words k z raw) (div-eq-sub-div s h ∙ add-one ((length raw - k) / k)) ∙ ap (λ z. field_at raw 0 (8 * k) ∷ raw_words k (z / k) (drop k raw)) d
+  where
+    add-one : (n : ℕ) → n + 1 ≡ suc n
+    add-one n = omega arith

@@ -12,7 +12,8 @@ use Rattle.forms.proofs.Codes.{walk-form, walk-means}
 use Rattle.faults.specs.Faults.{Answer, gives, fault}
 use Rattle.coder.specs.Steps.{seen, take_answer}
 use Rattle.blocks.specs.Loops.{is_taken, word_taken, len_taken, next_taken, prefixed, read_words}
-use Rattle.blocks.specs.Blocks.{words_in, room, over, pack_answer, pack_bytes, ReadsExactly}
+use Rattle.bits.specs.Raw.{words_in}
+use Rattle.blocks.specs.Blocks.{room, over, pack_answer, pack_bytes, ReadsExactly}
 use Rattle.blocks.proofs.Unpacking.{prefixed-gives}
 
 module _ {M : Type 0} {w : ℕ} (C : Coding M) (sound : Sound w C) (f : List ℕ) where

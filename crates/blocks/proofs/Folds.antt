@@ -1,14 +1,11 @@
 -- The loops over a block's words, one step and all together.
-use Rattle.std.proofs.Common.{◌≡◌, ℕ, suc, ◌+◌, ◌-◌, ◌*◌, ◌/◌, ◌%◌, ◌<◌, ◌≤◌, Bool, true, false, cond, leb, List, [], ◌∷◌, ◌++◌, length, get_or, drop, replicate, is_some, Some, None, Option, sym, refl, ap, ◌∙◌, subst, mul-le-mul_left, arith, length-append}
-use Rattle.std.proofs.lemmas.List.{at_drop_more, at_drop_all}
+use Rattle.std.proofs.Common.{◌≡◌, ℕ, suc, ◌+◌, ◌-◌, ◌*◌, ◌/◌, ◌%◌, ◌<◌, ◌≤◌, Bool, true, false, cond, leb, List, [], ◌∷◌, ◌++◌, length, drop, replicate, is_some, Some, None, Option, sym, refl, ap, ◌∙◌, subst, mul-le-mul_left, arith, length-append}
 use Rattle.std.specs.Option.{option_map}
 use Rattle.std.proofs.lemmas.Bool.Decides.{nat_tests}
 use Rattle.fields.specs.Fields.{is_field}
 use Rattle.std.proofs.lemmas.Bool.{le-leb}
 use Rattle.blocks.specs.Blocks.{over}
-use Rattle.bits.specs.Bits.{bits, bits_of, bytes_of, put_bits, overwritten, field_at, Bytes}
-use Rattle.bits.specs.Raw.{raw_words}
-use Rattle.bits.proofs.Raw.{word_at}
+use Rattle.bits.specs.Bits.{bits, bits_of, bytes_of, put_bits, overwritten, Bytes}
 use Rattle.bits.proofs.Numbers.{length-bits}
 use Rattle.bits.proofs.Files.{length-bits_of, bits_of-append, drop-bits_of, bits-zero, bits_of-bytes_of}
 use Rattle.bits.proofs.Fields.{Bytes-append, Bytes-drop}
@@ -23,24 +20,24 @@ use Rattle.faults.specs.Faults.{Answer, gives, fault}
 use Rattle.coder.specs.Steps.{seen, take_answer}
 use Rattle.blocks.specs.Loops.{form_part, next_part, measured, laid, is_taken, word_taken, len_taken, next_taken, prefixed, read_words, end_of, spread}
 
-module _ {M : Type 0} (C : Coding M) (m : M) (xs : List ℕ) (i : ℕ) (h : i < length xs) (x : ℕ) (is : x ≡ get_or xs i 0) where
+module _ {M : Type 0} (C : Coding M) (m : M) (x : ℕ) (xs ys : List ℕ) (is : ys ≡ x ∷ xs) where
   -- one word measured
-  pub measured-more : (len n v : ℕ) (k : M) → Some (bits n v, k) ≡ encoded C m x → measured C m len (drop i xs) ≡ measured C k (len + n) (drop (i + 1) xs)
+  pub measured-more : (len n v : ℕ) (k : M) → Some (bits n v, k) ≡ encoded C m x → measured C m len ys ≡ measured C k (len + n) xs
   unfolding measured
   measured-more len n v k e =
-      let F : Option (List Bool × M) → Option ℕ = λ o. cond (is_some o) (measured C (next_part m o) (len + length (form_part o)) (drop (i + 1) xs)) None in
-      at_drop_more (measured C m len) xs i 0 h ∙ ap (λ z. F (encoded C m z)) (sym is) ∙ ap F (sym e) ∙ ap (λ z. measured C k (len + z) (drop (i + 1) xs)) (length-bits n v)
+      let F : Option (List Bool × M) → Option ℕ = λ o. cond (is_some o) (measured C (next_part m o) (len + length (form_part o)) xs) None in
+      ap (measured C m len) is ∙ ap F (sym e) ∙ ap (λ z. measured C k (len + z) xs) (length-bits n v)
 
   -- a word without a form
-  pub measured-none : (len : ℕ) → None ≡ encoded C m x → measured C m len (drop i xs) ≡ None
+  pub measured-none : (len : ℕ) → None ≡ encoded C m x → measured C m len ys ≡ None
   unfolding measured
   measured-none len e =
-      let F : Option (List Bool × M) → Option ℕ = λ o. cond (is_some o) (measured C (next_part m o) (len + length (form_part o)) (drop (i + 1) xs)) None in
-      at_drop_more (measured C m len) xs i 0 h ∙ ap (λ z. F (encoded C m z)) (sym is) ∙ ap F (sym e)
+      let F : Option (List Bool × M) → Option ℕ = λ o. cond (is_some o) (measured C (next_part m o) (len + length (form_part o)) xs) None in
+      ap (measured C m len) is ∙ ap F (sym e)
 
-pub measured-all : {M : Type 0} (C : Coding M) (m : M) (xs : List ℕ) (i len : ℕ) → length xs ≤ i → measured C m len (drop i xs) ≡ Some len
+pub measured-all : {M : Type 0} (C : Coding M) (m : M) (ys : List ℕ) (len : ℕ) → ys ≡ [] → measured C m len ys ≡ Some len
 unfolding measured
-measured-all C m xs i len h = at_drop_all (measured C m len) xs i h
+measured-all C m ys len h = ap (measured C m len) h
 
 -- ## Raw words
 
@@ -51,23 +48,19 @@ index-within k i n size l e h b = rw e (omega (arith, mul-le-mul_left k (add-one
     add-one-le-of : i < n → i + 1 ≤ n
     add-one-le-of h = omega arith
 
--- and is the word of the list
-pub index_word : (k n : ℕ) (raw : List ℕ) (i size x : ℕ) → size ≡ k → i < n → k * n ≤ length raw → x ≡ field_at raw (8 * (size * i)) (8 * size) → x ≡ get_or (raw_words k n raw) i 0
-index_word k n raw i size x e h b d = d ∙ ap (λ z. field_at raw (8 * (z * i)) (8 * z)) e ∙ sym (word_at k n raw i h b)
-
 -- ## Laying
 
-module _ {M : Type 0} (C : Coding M) (m : M) (xs : List ℕ) (i : ℕ) (h : i < length xs) (x : ℕ) (is : x ≡ get_or xs i 0) where
+module _ {M : Type 0} (C : Coding M) (m : M) (x : ℕ) (xs ys : List ℕ) (is : ys ≡ x ∷ xs) where
   -- one word laid
-  pub laid_more : (b : List ℕ) (at n v : ℕ) (k : M) → Some (bits n v, k) ≡ encoded C m x → laid C m b at (drop i xs) ≡ laid C k (put_bits b at (bits n v)) (at + n) (drop (i + 1) xs)
+  pub laid_more : (b : List ℕ) (at n v : ℕ) (k : M) → Some (bits n v, k) ≡ encoded C m x → laid C m b at ys ≡ laid C k (put_bits b at (bits n v)) (at + n) xs
   unfolding laid
   laid_more b at n v k e =
-      let F : Option (List Bool × M) → List ℕ = λ o. laid C (next_part m o) (put_bits b at (form_part o)) (at + length (form_part o)) (drop (i + 1) xs) in
-      at_drop_more (laid C m b at) xs i 0 h ∙ ap (λ z. F (encoded C m z)) (sym is) ∙ ap F (sym e) ∙ ap (λ z. laid C k (put_bits b at (bits n v)) (at + z) (drop (i + 1) xs)) (length-bits n v)
+      let F : Option (List Bool × M) → List ℕ = λ o. laid C (next_part m o) (put_bits b at (form_part o)) (at + length (form_part o)) xs in
+      ap (laid C m b at) is ∙ ap F (sym e) ∙ ap (λ z. laid C k (put_bits b at (bits n v)) (at + z) xs) (length-bits n v)
 
-pub laid-all : {M : Type 0} (C : Coding M) (m : M) (xs : List ℕ) (i : ℕ) (b : List ℕ) (at : ℕ) → length xs ≤ i → laid C m b at (drop i xs) ≡ b
+pub laid-all : {M : Type 0} (C : Coding M) (m : M) (ys : List ℕ) (b : List ℕ) (at : ℕ) → ys ≡ [] → laid C m b at ys ≡ b
 unfolding laid
-laid-all C m xs i b at h = at_drop_all (laid C m b at) xs i h
+laid-all C m ys b at h = ap (laid C m b at) h
 
 module _ {M : Type 0} (C : Coding M) where
   -- a measure is that of the block
@@ -199,36 +192,36 @@ room_for at n t size a b c = grind (arith, nat_tests)
 field-there : (at n size : ℕ) → n ≤ 64 → at + n ≤ 8 * size → is_field at n size ≡ true
 field-there at n size a b = grind (arith, nat_tests)
 
-module _ {M : Type 0} (C : Coding M) (m : M) (xs : List ℕ) (i : ℕ) (h : i < length xs) (x : ℕ) (is : x ≡ get_or xs i 0) where
-  pub lay-more : (H L : List ℕ) (E t size n v : ℕ) (k : M) → laid C m H E (drop i xs) ≡ L → measured C m E (drop i xs) ≡ Some t → Some (bits n v, k) ≡ encoded C m x → n ≤ 64 → (t + 7) / 8 ≤ size →
+module _ {M : Type 0} (C : Coding M) (m : M) (x : ℕ) (xs ys : List ℕ) (is : ys ≡ x ∷ xs) where
+  pub lay-more : (H L : List ℕ) (E t size n v : ℕ) (k : M) → laid C m H E ys ≡ L → measured C m E ys ≡ Some t → Some (bits n v, k) ≡ encoded C m x → n ≤ 64 → (t + 7) / 8 ≤ size →
       (r : Bool) (J : List ℕ) (F : ℕ) → r ≡ is_field E n size → J ≡ cond r (put_bits H E (bits n v)) H → F ≡ cond r (E + n) E →
-      (laid C k J F (drop (i + 1) xs) ≡ L) × (measured C k F (drop (i + 1) xs) ≡ Some t)
+      (laid C k J F xs ≡ L) × (measured C k F xs ≡ Some t)
   lay-more H L E t size n v k a b e s f r J F p q u =
-      let b2 : measured C k (E + n) (drop (i + 1) xs) ≡ Some t = sym (measured-more C m xs i h x is E n v k e) ∙ b in
-      let le : E + n ≤ t = measured-le C k (E + n) (drop (i + 1) xs) t b2 in
+      let b2 : measured C k (E + n) xs ≡ Some t = sym (measured-more C m x xs ys is E n v k e) ∙ b in
+      let le : E + n ≤ t = measured-le C k (E + n) xs t b2 in
       let y : r ≡ true = p ∙ room_for E n t size s le f in
       let j : J ≡ put_bits H E (bits n v) = q ∙ ap (λ z. cond z (put_bits H E (bits n v)) H) y in
       let g : F ≡ E + n = u ∙ ap (λ z. cond z (E + n) E) y in (
-        ap (λ z. laid C k z F (drop (i + 1) xs)) j ∙ ap (λ z. laid C k (put_bits H E (bits n v)) z (drop (i + 1) xs)) g ∙ sym (laid_more C m xs i h x is H E n v k e) ∙ a,
-        ap (λ z. measured C k z (drop (i + 1) xs)) g ∙ b2,
+        ap (λ z. laid C k z F xs) j ∙ ap (λ z. laid C k (put_bits H E (bits n v)) z xs) g ∙ sym (laid_more C m x xs ys is H E n v k e) ∙ a,
+        ap (λ z. measured C k z xs) g ∙ b2,
       )
 
   -- no word of a block that was measured lacks a form
-  pub lay-none : (E t : ℕ) → measured C m E (drop i xs) ≡ Some t → None ≡ encoded C m x → ⊥
-  lay-none E t b e = none-some (sym (measured-none C m xs i h x is E e) ∙ b)
+  pub lay-none : (E t : ℕ) → measured C m E ys ≡ Some t → None ≡ encoded C m x → ⊥
+  lay-none E t b e = none-some (sym (measured-none C m x xs ys is E e) ∙ b)
 
-pub lay-end : {M : Type 0} (C : Coding M) (m k : M) (xs : List ℕ) (i : ℕ) (out H : List ℕ) (E t gap : ℕ) → Bytes out → length xs ≤ i → laid C m H E (drop i xs) ≡ laid C k out 0 xs →
-    measured C m E (drop i xs) ≡ Some t → measured C k 0 xs ≡ Some t → (t + 7) / 8 ≤ length out → gap ≡ (8 - t % 8) % 8 →
+pub lay-end : {M : Type 0} (C : Coding M) (m k : M) (xs ys : List ℕ) (out H : List ℕ) (E t gap : ℕ) → Bytes out → ys ≡ [] → laid C m H E ys ≡ laid C k out 0 xs →
+    measured C m E ys ≡ Some t → measured C k 0 xs ≡ Some t → (t + 7) / 8 ≤ length out → gap ≡ (8 - t % 8) % 8 →
     (r : Bool) (J : List ℕ) (F : ℕ) → r ≡ is_field E gap (length out) → J ≡ cond r (put_bits H E (bits gap 0)) H → F ≡ cond r (E + gap) E →
     (new old : List ℕ) → new ≡ cond (leb F (8 * length out)) J old → new ≡ over out (block_bits C k xs)
-lay-end C m k xs i out H E t gap B l a b d f gp r J F p q u new old w = go (block_bits C k xs) refl
+lay-end C m k xs ys out H E t gap B l a b d f gp r J F p q u new old w = go (block_bits C k xs) refl
   where
     go : (o : Option (List Bool)) → block_bits C k xs ≡ o → new ≡ over out o
     go None e = absurd (none-some (sym (measured-block C k 0 xs ∙ ap (option_map (λ bs. 0 + length bs)) e) ∙ d))
     go (Some bs) e =
         let n : length bs ≡ t = let z : 0 + length bs ≡ t = some_same (sym (measured-block C k 0 xs ∙ ap (option_map (λ bs. 0 + length bs)) e) ∙ d) in omega arith in
-        let he : E ≡ t = some_same (sym (measured-all C m xs i E l) ∙ b) in
-        let hb : H ≡ put_bits out 0 bs = sym (laid-all C m xs i H E l) ∙ a ∙ laid-block C k out 0 xs bs B e (omega arith) in
+        let he : E ≡ t = some_same (sym (measured-all C m ys E l) ∙ b) in
+        let hb : H ≡ put_bits out 0 bs = sym (laid-all C m ys H E l) ∙ a ∙ laid-block C k out 0 xs bs B e (omega arith) in
         let y : r ≡ true = p ∙ field-there E gap (length out) (omega arith) (omega arith) in
         let j : J ≡ put_bits H E (bits gap 0) = q ∙ ap (λ z. cond z (put_bits H E (bits gap 0)) H) y in
         let g : F ≡ E + gap = u ∙ ap (λ z. cond z (E + gap) E) y in

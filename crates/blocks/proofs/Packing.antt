@@ -3,27 +3,19 @@ use Rattle.std.proofs.Common.{◌≡◌, ℕ, ◌+◌, ◌/◌, ◌%◌, ◌<◌
 use Rattle.std.proofs.lemmas.Bool.{eq-eqb, le-leb, lt-leb}
 use Rattle.std.specs.Option.{option_map}
 use Rattle.bits.specs.Bits.{bytes_of}
-use Rattle.bits.specs.Raw.{raw_words}
+use Rattle.bits.specs.Raw.{words_in}
 use Rattle.forms.specs.Coding.{Coding}
 use Rattle.forms.specs.Blocks.{block_bits}
 use Rattle.forms.proofs.Codes.{some_same, none-some}
 use Rattle.faults.specs.Faults.{Answer, gives, fault, number_of}
 use Rattle.faults.specs.declared.kind.Fault.{Fault}
-use Rattle.faults.specs.declared.kind.Kind.{Kind}
 use Rattle.blocks.specs.Loops.{measured}
 use Rattle.blocks.specs.Blocks.{room, over, pack_answer, pack_bytes}
 use Rattle.blocks.proofs.Folds.{measured-block}
 
 module _ {M : Type 0} (k size : ℕ) (C : Coding M) (raw : List ℕ) (e : size ≡ k) (whole : length raw % size ≡ 0) (few : length raw / size ≤ 65536) where
-  words : List ℕ
-  words = raw_words k (length raw / size) raw
-
   block : Option (List Bool)
-  block = block_bits C C.start (raw_words k (length raw / size) raw)
-
-  same : block_bits C C.start (raw_words k (length raw / k) raw) ≡ block
-  unfolding block
-  same = ap (λ z. block_bits C C.start (raw_words k (length raw / z) raw)) (sym e)
+  block = block_bits C C.start (words_in k raw)
 
   test : eqb (length raw % k) 0 ≡ true
   test = eq-eqb (length raw % k) 0 (ap (λ z. length raw % z) (sym e) ∙ whole)
@@ -33,27 +25,29 @@ module _ {M : Type 0} (k size : ℕ) (C : Coding M) (raw : List ℕ) (e : size �
 
   -- past the first two faults
   reach : (z : ℕ) → pack_answer k C raw z ≡ room z block
+  unfolding block
   reach z =
-      ap (λ t. cond t (cond (leb (length raw / k) 65536) (room z (block_bits C C.start (raw_words k (length raw / k) raw))) (fault 9 0)) (fault 13 0)) test
-      ∙ ap (λ t. cond t (room z (block_bits C C.start (raw_words k (length raw / k) raw))) (fault 9 0)) few-test ∙ ap (room z) same
+      ap (λ t. cond t (cond (leb (length raw / k) 65536) (room z (block_bits C C.start (words_in k raw))) (fault 9 0)) (fault 13 0)) test
+      ∙ ap (λ t. cond t (room z (block_bits C C.start (words_in k raw))) (fault 9 0)) few-test
 
   reach-bytes : (out : List ℕ) → pack_bytes k C raw out ≡ over out block
-  reach-bytes out =
-      ap (λ t. cond t (cond (leb (length raw / k) 65536) (over out (block_bits C C.start (raw_words k (length raw / k) raw))) out) out) test
-      ∙ ap (λ t. cond t (over out (block_bits C C.start (raw_words k (length raw / k) raw))) out) few-test ∙ ap (over out) same
-
-  measured-is : (o : Option ℕ) → o ≡ measured C C.start 0 (raw_words k (length raw / size) raw) → o ≡ option_map (λ bs. 0 + length bs) block
   unfolding block
-  measured-is o a = a ∙ measured-block C C.start 0 (raw_words k (length raw / size) raw)
+  reach-bytes out =
+      ap (λ t. cond t (cond (leb (length raw / k) 65536) (over out (block_bits C C.start (words_in k raw))) out) out) test
+      ∙ ap (λ t. cond t (over out (block_bits C C.start (words_in k raw))) out) few-test
 
-  pub packed_none : (out : List ℕ) → None ≡ measured C C.start 0 (raw_words k (length raw / size) raw) → (fault 7 0 ≡ pack_answer k C raw (length out)) × (out ≡ pack_bytes k C raw out)
+  measured-is : (o : Option ℕ) → o ≡ measured C C.start 0 (words_in k raw) → o ≡ option_map (λ bs. 0 + length bs) block
+  unfolding block
+  measured-is o a = a ∙ measured-block C C.start 0 (words_in k raw)
+
+  pub packed_none : (out : List ℕ) → None ≡ measured C C.start 0 (words_in k raw) → (fault 7 0 ≡ pack_answer k C raw (length out)) × (out ≡ pack_bytes k C raw out)
   packed_none out a = go block refl (measured-is None a)
     where
       go : (b : Option (List Bool)) → block ≡ b → None ≡ option_map (λ bs. 0 + length bs) b → (fault 7 0 ≡ pack_answer k C raw (length out)) × (out ≡ pack_bytes k C raw out)
       go None i d = (sym (reach (length out) ∙ ap (room (length out)) i), sym (reach-bytes out ∙ ap (over out) i))
       go (Some bs) i d = absurd (none-some d)
 
-  pub packed-short : (out : List ℕ) (n : ℕ) → Some n ≡ measured C C.start 0 (raw_words k (length raw / size) raw) → length out < (n + 7) / 8 → (fault 2 0 ≡ pack_answer k C raw (length out)) × (out ≡ pack_bytes k C raw out)
+  pub packed-short : (out : List ℕ) (n : ℕ) → Some n ≡ measured C C.start 0 (words_in k raw) → length out < (n + 7) / 8 → (fault 2 0 ≡ pack_answer k C raw (length out)) × (out ≡ pack_bytes k C raw out)
   packed-short out n a l = go block refl (measured-is (Some n) a)
     where
       go : (b : Option (List Bool)) → block ≡ b → Some n ≡ option_map (λ bs. 0 + length bs) b → (fault 2 0 ≡ pack_answer k C raw (length out)) × (out ≡ pack_bytes k C raw out)
@@ -63,7 +57,7 @@ module _ {M : Type 0} (k size : ℕ) (C : Coding M) (raw : List ℕ) (e : size �
           let t : leb ((length bs + 7) / 8) (length out) ≡ false = lt-leb ((length bs + 7) / 8) (length out) (omega arith) in
           (sym (reach (length out) ∙ ap (room (length out)) i ∙ ap (λ z. cond z (gives (length bs)) (fault 2 0)) t), sym (reach-bytes out ∙ ap (over out) i ∙ ap (λ z. cond z (bytes_of bs ++ drop ((length bs + 7) / 8) out) out) t))
 
-  pub packed-done : (out new : List ℕ) (n : ℕ) → Some n ≡ measured C C.start 0 (raw_words k (length raw / size) raw) → (n + 7) / 8 ≤ length out → new ≡ over out (block_bits C C.start (raw_words k (length raw / size) raw)) →
+  pub packed-done : (out new : List ℕ) (n : ℕ) → Some n ≡ measured C C.start 0 (words_in k raw) → (n + 7) / 8 ≤ length out → new ≡ over out (block_bits C C.start (words_in k raw)) →
       (gives n ≡ pack_answer k C raw (length out)) × (new ≡ pack_bytes k C raw out)
   unfolding block
   packed-done out new n a l w = (go block refl (measured-is (Some n) a), w ∙ sym (reach-bytes out))
@@ -76,6 +70,6 @@ module _ {M : Type 0} (k size : ℕ) (C : Coding M) (raw : List ℕ) (e : size �
           let t : leb ((length bs + 7) / 8) (length out) ≡ true = le-leb ((length bs + 7) / 8) (length out) (omega arith) in
           sym (reach (length out) ∙ ap (room (length out)) i ∙ ap (λ z. cond z (gives (length bs)) (fault 2 0)) t ∙ ap gives j)
 
--- a fault at the start
-pub at-start : {A : Type 0} (f : Fault) (k : Kind) → (f.kind ≡ k) × (f.place.bits ≡ 0) → ◌≡◌ {A = Answer A} (fault (number_of f.kind) f.place.bits) (fault (number_of k) 0)
-at-start f k (a, b) = ap (λ z. fault (number_of z) f.place.bits) a ∙ ap (fault (number_of k)) b
+-- a fault's number and place
+pub faulted : {A : Type 0} (f k : Fault) → f ≡ k → ◌≡◌ {A = Answer A} (fault (number_of f.kind) f.place.bits) (fault (number_of k.kind) k.place.bits)
+faulted {A} f k e = ap {B = Answer A} (λ z. fault (number_of z.kind) z.place.bits) e

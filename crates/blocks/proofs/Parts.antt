@@ -1,11 +1,11 @@
 -- Raw words in a part of a slice that is lent.
-use Rattle.std.proofs.Common.{◌≡◌, ℕ, ◌+◌, ◌-◌, ◌*◌, ◌≤◌, true, cond, List, [], ◌++◌, length, take, drop, Some, None, Option, sym, ap, ◌∙◌, append-nil, mul_comm, mul-add, arith, length-drop, drop_of_length-le, length-take}
+use Rattle.std.proofs.Common.{◌≡◌, ℕ, ◌+◌, ◌-◌, ◌*◌, ◌≤◌, true, cond, List, [], ◌++◌, length, take, drop, sym, ap, ◌∙◌, append-nil, mul_comm, mul-add, arith, drop_of_length-le}
 use borrow.Rule.Slice.PartMut.{put_mid}
-use Rattle.std.proofs.lemmas.List.{drop-drop, take_at}
+use Rattle.std.proofs.lemmas.List.{drop-drop}
 use Rattle.std.proofs.lemmas.Bool.Decides.{nat_tests}
 use Rattle.fields.specs.Fields.{is_raw}
-use Rattle.bits.specs.Bits.{number, bits, bits_of, bytes, put_bits, stored, field_at, Bytes}
-use Rattle.bits.proofs.Files.{length-bits_of, take-bits_of, drop-bits_of}
+use Rattle.bits.specs.Bits.{bits, bytes, put_bits, stored, Bytes}
+use Rattle.bits.proofs.Raw.{part_length}
 use Rattle.bits.proofs.Fields.{Bytes-take, Bytes-drop}
 use Rattle.bits.proofs.Laws.{put-stored}
 
@@ -40,12 +40,6 @@ module _ (f : List ℕ) (i s at : ℕ) (some : 1 ≤ s) (most : s ≤ 4) (h : s 
     where
       go : (a k l : ℕ) → a ≡ 0 → 1 ≤ k → k ≤ 4 → l ≡ k → is_raw a k l ≡ true
       go a k l x y z w = grind (arith, nat_tests)
-
-  pub lent-word : (o : Option ℕ) → o ≡ cond (is_raw at s (length (take (i * s + s - i * s) (drop (i * s) f)))) (Some (field_at (take (i * s + s - i * s) (drop (i * s) f)) (8 * at) (8 * s))) None → o ≡ Some (field_at f (8 * (s * i)) (8 * s))
-  unfolding lent
-  lent-word o e =
-      e ∙ ap (λ z. cond z (Some (field_at lent (8 * at) (8 * s))) None) is-raw ∙ ap (λ z. Some (field_at lent (8 * z) (8 * s))) zero ∙ ap (λ z. Some (field_at z 0 (8 * s))) whole
-      ∙ ap Some (field-part f (i * s) s inside) ∙ ap (λ z. Some (field_at f (8 * z) (8 * s))) (mul_comm i s)
 
   pub lent-put : (ys : List ℕ) (v : ℕ) → Bytes f → ys ≡ cond (is_raw at s (length (take (i * s + s - i * s) (drop (i * s) f)))) (put_bits (take (i * s + s - i * s) (drop (i * s) f)) (8 * at) (bits (8 * s) v)) (take (i * s + s - i * s) (drop (i * s) f)) →
       put_mid (i * s) (i * s + s - i * s) f ys ≡ put_bits f (8 * (s * i)) (bits (8 * s) v)

@@ -1,7 +1,7 @@
 -- What packing and reading a block answer, and what the output then holds.
 use Rattle.std.specs.Prelude.{◌≡◌, ℕ, ◌+◌, ◌*◌, ◌/◌, ◌%◌, Bool, cond, List, ◌++◌, length, take, drop, Some, None, Option, ◌==◌, nat_le}
 use Rattle.bits.specs.Bits.{bits_of, bytes_of}
-use Rattle.bits.specs.Raw.{raw_words, raw_bytes}
+use Rattle.bits.specs.Raw.{words_in, raw_bytes}
 use Rattle.forms.specs.Coding.{Coding}
 use Rattle.forms.specs.Blocks.{Block, block_bits}
 use Rattle.faults.specs.Faults.{Answer, gives, fault}
@@ -10,10 +10,6 @@ use Rattle.blocks.specs.Loops.{read_words}
 -- a raw word of w bits has so many bytes
 abbrev pub bytes_per : ℕ → ℕ
 bytes_per w = (w + 7) / 8
-
--- the words of raw bytes, k bytes each
-abbrev pub words_in : ℕ → List ℕ → List ℕ
-words_in k raw = raw_words k (length raw / k) raw
 
 -- ## Packing: 13 where the raw bytes end inside a word, 9 over 65,536 words, 7 where a word has no form, 2 where the output is too short
 

@@ -1,11 +1,11 @@
 // One block code for every coder: a block is its words' forms in order, filled up with zero bits to a whole byte.
 ghost use Rattle.std.specs.Prelude.{◌≡◌, ℕ, ◌+◌, ◌*◌, ◌/◌, ◌≤◌, length, take, IfSome, IfOk, Some, Ok};
 ghost use Rattle.bits.specs.Bits.{bits, put_bits, field_at};
-ghost use Rattle.bits.specs.Raw.{raw_words};
+ghost use Rattle.bits.specs.Raw.{words_in};
 ghost use Rattle.forms.specs.Blocks.{block_bits, Apart};
 ghost use Rattle.faults.specs.Faults.{answered, gives};
 ghost use Rattle.blocks.specs.Loops.{measured, laid, read_words, end_of, spread};
-ghost use Rattle.blocks.specs.Blocks.{bytes_per, words_in, over, pack_answer, pack_bytes, read_answer, read_bytes, ReadsExactly};
+ghost use Rattle.blocks.specs.Blocks.{bytes_per, over, pack_answer, pack_bytes, read_answer, read_bytes, ReadsExactly};
 
 use coder::coder::Coder;
 use coder::steps::take_word;
@@ -13,40 +13,10 @@ use faults::kind::{Fault, Kind};
 use fields::accumulator::Accumulator;
 use fields::bytes::are_bytes;
 use fields::place::{BitPlace, BytePlace};
-use fields::raw::{put_raw_word, raw_word};
+use fields::raw::put_raw_word;
 
 // The most words of a block.
 const MOST_WORDS: usize = 65536;
-
-fn at_start(kind: Kind) -> Fault
-    ensures { (result.kind ≡ kind) × (result.place.bits ≡ 0) }
-{
-    Fault {
-        kind,
-        place: BitPlace::new(0),
-    }
-}
-
-// The word at an index of raw bytes, `size` bytes each.
-fn word_at(raw: &[u8], index: usize, size: u32) -> u32
-    requires { (1 ≤ size) × ((size ≤ 4) × (size * (index + 1) ≤ length raw.now)) }
-    ensures { result ≡ field_at raw.now (8 * (size * index)) (8 * size) }
-{
-    let n = size as usize;
-    let p = index * n;
-    raw_word(&raw[p..p + n], BytePlace::new(0), size).unwrap_or(0)
-}
-
-// Writes a word at an index of raw bytes, `size` bytes each.
-fn put_word_at(raw: &mut [u8], index: usize, word: u32, size: u32)
-    requires { (1 ≤ size) × ((size ≤ 4) × (size * (index + 1) ≤ length raw.old)) }
-    ensures { raw.new ≡ put_bits raw.old (8 * (size * index)) (bits (8 * size) word) }
-{
-    are_bytes(raw);
-    let n = size as usize;
-    let p = index * n;
-    put_raw_word(&mut raw[p..p + n], BytePlace::new(0), word, size);
-}
 
 // How many bytes a raw word has.
 fn word_size<C: Coder>(coder: &C) -> u32
@@ -58,43 +28,34 @@ fn word_size<C: Coder>(coder: &C) -> u32
 }
 
 // How many bits the words take; nothing where one has no form.
-fn measure<C: Coder>(coder: &C, raw: &[u8], count: usize) -> Option<usize>
-    requires few { count ≤ 65536 }
-    requires raw { bytes_per (C.Coder.wide coder.now) * count ≤ length raw.now }
-    ensures bits { result ≡ measured (C.Coder.coding coder.now) (C.Coder.coding coder.now).start 0 (raw_words (bytes_per (C.Coder.wide coder.now)) count raw.now) }
-    ensures few { IfSome result (λ n. n ≤ 64 * count) }
+fn measure<C: Coder>(coder: &C, raw: &[u8]) -> Option<usize>
+    requires few { length (words_in (bytes_per (C.Coder.wide coder.now)) raw.now) ≤ 65536 }
+    ensures bits { result ≡ measured (C.Coder.coding coder.now) (C.Coder.coding coder.now).start 0 (words_in (bytes_per (C.Coder.wide coder.now)) raw.now) }
+    ensures few { IfSome result (λ n. n ≤ 4194304) }
 {
-    let size = word_size(coder);
     let mut memory = coder.start();
     let mut len = 0;
-    for i in 0..count {
-        match coder.encode(memory, word_at(raw, i, size)) {
-            None => return None,
-            Some(coded) => {
-                len += coded.form.len as usize;
-                memory = coded.next;
-            }
-        }
+    for word in coder.word_width().words(raw) {
+        let coded = coder.encode(memory, word)?;
+        len += coded.form.len as usize;
+        memory = coded.next;
     }
     Some(len)
 }
 
 // Writes the forms of the words, which take `len` bits, and zero bits up to a whole byte.
-fn lay<C: Coder>(coder: &C, raw: &[u8], count: usize, len: usize, out: &mut [u8])
-    requires few { count ≤ 65536 }
-    requires raw { bytes_per (C.Coder.wide coder.now) * count ≤ length raw.now }
+fn lay<C: Coder>(coder: &C, raw: &[u8], len: usize, out: &mut [u8])
     requires room { (len + 7) / 8 ≤ length out.old }
-    requires measured { measured (C.Coder.coding coder.now) (C.Coder.coding coder.now).start 0 (raw_words (bytes_per (C.Coder.wide coder.now)) count raw.now) ≡ Some len }
-    ensures { out.new ≡ over out.old (block_bits (C.Coder.coding coder.now) (C.Coder.coding coder.now).start (raw_words (bytes_per (C.Coder.wide coder.now)) count raw.now)) }
+    requires measured { measured (C.Coder.coding coder.now) (C.Coder.coding coder.now).start 0 (words_in (bytes_per (C.Coder.wide coder.now)) raw.now) ≡ Some len }
+    ensures { out.new ≡ over out.old (block_bits (C.Coder.coding coder.now) (C.Coder.coding coder.now).start (words_in (bytes_per (C.Coder.wide coder.now)) raw.now)) }
 {
     are_bytes(out);
-    let size = word_size(coder);
     let Some(mut waiting) = Accumulator::start(out, BitPlace::new(0)) else {
         return;
     };
     let mut memory = coder.start();
-    for i in 0..count {
-        let Some(coded) = coder.encode(memory, word_at(raw, i, size)) else {
+    for word in coder.word_width().words(raw) {
+        let Some(coded) = coder.encode(memory, word) else {
             return;
         };
         waiting.push(out, coded.form.bits, coded.form.len);
@@ -112,19 +73,16 @@ fn pack_words<C: Coder>(coder: &C, raw: &[u8], out: &mut [u8]) -> Result<usize, 
 {
     let size = word_size(coder) as usize;
     if raw.len() % size != 0 {
-        return Err(at_start(Kind::PartialWord));
+        return Err(Kind::PartialWord.at_start());
     }
-    let count = raw.len() / size;
-    if count > MOST_WORDS {
-        return Err(at_start(Kind::OverLimit));
+    if raw.len() / size > MOST_WORDS {
+        return Err(Kind::OverLimit.at_start());
     }
-    let Some(len) = measure(coder, raw, count) else {
-        return Err(at_start(Kind::NoForm));
-    };
-    if (len + 7) / 8 > out.len() {
-        return Err(at_start(Kind::OutputTooShort));
+    let len = measure(coder, raw).ok_or(Kind::NoForm.at_start())?;
+    if len.div_ceil(8) > out.len() {
+        return Err(Kind::OutputTooShort.at_start());
     }
-    lay(coder, raw, count, len, out);
+    lay(coder, raw, len, out);
     Ok(len)
 }
 
@@ -136,15 +94,24 @@ fn scan<C: Coder>(coder: &C, block: &[u8], count: usize) -> Result<BitPlace, Fau
     let mut memory = coder.start();
     let mut at = BitPlace::new(0);
     for i in 0..count {
-        match take_word(coder, memory, block, at) {
-            Err(fault) => return Err(fault),
-            Ok(taken) => {
-                at = BitPlace::new(at.bits() + taken.len as usize);
-                memory = taken.next;
-            }
-        }
+        let taken = take_word(coder, memory, block, at)?;
+        at = BitPlace::new(at.bits() + taken.len as usize);
+        memory = taken.next;
     }
     Ok(at)
+}
+
+// Writes a word at an index of raw bytes, `size` bytes each.
+fn put_word_at(raw: &mut [u8], index: usize, word: u32, size: u32)
+    requires some { 1 ≤ size }
+    requires most { size ≤ 4 }
+    requires room { size * (index + 1) ≤ length raw.old }
+    ensures { raw.new ≡ put_bits raw.old (8 * (size * index)) (bits (8 * size) word) }
+{
+    are_bytes(raw);
+    let n = size as usize;
+    let p = index * n;
+    put_raw_word(&mut raw[p..p + n], BytePlace::new(0), word, size);
 }
 
 // Reads so many words, which are there, and writes them out.
@@ -157,14 +124,12 @@ fn unpack<C: Coder>(coder: &C, block: &[u8], count: usize, out: &mut [u8])
     let mut memory = coder.start();
     let mut at = BitPlace::new(0);
     for i in 0..count {
-        match take_word(coder, memory, block, at) {
-            Err(_) => return,
-            Ok(taken) => {
-                put_word_at(out, i, taken.word, size);
-                at = BitPlace::new(at.bits() + taken.len as usize);
-                memory = taken.next;
-            }
-        }
+        let Ok(taken) = take_word(coder, memory, block, at) else {
+            return;
+        };
+        put_word_at(out, i, taken.word, size);
+        at = BitPlace::new(at.bits() + taken.len as usize);
+        memory = taken.next;
     }
 }
 
@@ -181,25 +146,18 @@ fn read_words<C: Coder>(
 {
     are_bytes(out);
     if count > MOST_WORDS {
-        return Err(at_start(Kind::OverLimit));
+        return Err(Kind::OverLimit.at_start());
     }
     let size = word_size(coder) as usize;
     if size * count > out.len() {
-        return Err(at_start(Kind::OutputTooShort));
+        return Err(Kind::OutputTooShort.at_start());
     }
-    match scan(coder, block, count) {
-        Err(fault) => Err(fault),
-        Ok(end) => {
-            if end.whole_byte().bytes() < block.len() {
-                return Err(Fault {
-                    kind: Kind::TrailingBytes,
-                    place: end,
-                });
-            }
-            unpack(coder, block, count, out);
-            Ok(count)
-        }
+    let end = scan(coder, block, count)?;
+    if end.whole_byte().bytes() < block.len() {
+        return Err(Kind::TrailingBytes.at(end));
     }
+    unpack(coder, block, count, out);
+    Ok(count)
 }
 
 // Packs raw words, low byte first, into a block at the front of `out`, and answers how many bits it has.

@@ -6,6 +6,7 @@ pub mod delta;
 pub mod form;
 pub mod laws;
 pub mod modular;
+pub mod raw_words;
 pub mod step;
 pub mod steps;
 pub mod turn;

@@ -4,7 +4,7 @@ use native.Mathlib.Nat.{div-eq_of_lt, div-eq-sub-div, div-add-mod}
 use Rattle.std.proofs.lemmas.Bool.{and_parts, eq-eqb, ne_eqb, ltb-true, ltb-false, eqb-true, eqb-false}
 use Rattle.bits.specs.Bits.{number, bits_of, field_at}
 use Rattle.bits.specs.Raw.{raw_words}
-use Rattle.bits.proofs.Raw.{length-raw_words}
+use Rattle.bits.proofs.Raw.{length-raw_words, words_more, words-none}
 use Rattle.bits.proofs.Files.{take-bits_of}
 use Rattle.layout.specs.Recording as recordings
 use Rattle.layout.specs.Channels.{width, suits, ruled}
@@ -40,19 +40,6 @@ sized c (suc n) given =
 word_first : (k : ℕ) (raw : List ℕ) → k ≤ length raw → number (bits_of (take k raw)) ≡ field_at raw 0 (8 * k)
 unfolding field_at
 word_first k raw h = ap number (sym (take-bits_of k raw h))
-
-words_more : (k : ℕ) (raw : List ℕ) → 1 ≤ k → k ≤ length raw → raw_words k (length raw / k) raw ≡ field_at raw 0 (8 * k) ∷ raw_words k (length (drop k raw) / k) (drop k raw)
-unfolding raw_words
-words_more k raw s h =
-    let d : length raw - k ≡ length (drop k raw) = simp length-drop refl in
-    ap (λ z. raw_words k z raw) (div-eq-sub-div s h ∙ add-one ((length raw - k) / k)) ∙ ap (λ z. field_at raw 0 (8 * k) ∷ raw_words k (z / k) (drop k raw)) d
-  where
-    add-one : (n : ℕ) → n + 1 ≡ suc n
-    add-one n = omega arith
-
-words-none : (k : ℕ) (raw : List ℕ) → length raw < k → raw_words k (length raw / k) raw ≡ []
-unfolding raw_words
-words-none k raw h = ap (λ z. raw_words k z raw) (div-eq_of_lt h)
 
 -- the words of a row alone, looking far enough
 words-from : (c : recordings.Channel) (far given : ℕ) (raw : List ℕ) → 1 ≤ width c.kind / 8 → length raw ≤ far →

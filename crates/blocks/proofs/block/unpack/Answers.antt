@@ -18,20 +18,25 @@ loop-i-init g c =
       omega (arith, c.new-at.ensures),
     )
 
-pub returns-in-Err : goal.returns-in-Err
-returns-in-Err g c =
+pub returns-in_default : goal.returns-in_default
+returns-in_default g c =
     let C = g.C.Coder.coding c.args.coder.now in
     let k : ℕ = bytes_per (g.C.Coder.wide c.args.coder.now) in
     let i : ℕ = c.loop-i.i in
     let n : ℕ = c.args.count in
-    sym (spread-not C c.loop-i.memory c.args.block.now c.loop-i.at.bits k c.loop-i.out (k * i) (n - i) (n - (i + 1)) (number_of c.in-Err.field-0.kind) c.in-Err.field-0.place.bits (omega arith) c.in-Err.ensures)
+    let f = c.in_default.field-0 in
+    sym (spread-not C c.loop-i.memory c.args.block.now c.loop-i.at.bits k c.loop-i.out (k * i) (n - i) (n - (i + 1)) (number_of f.kind) f.place.bits (omega arith) c.in_default.ensures)
     ∙ c.loop-i.invariant.0
 
 pub put_word_at-requires : goal.put_word_at-requires
 put_word_at-requires g c =
     let k : ℕ = bytes_per (g.C.Coder.wide c.args.coder.now) in
     let l : k * c.args.count ≤ length c.loop-i.out = rw c.loop-i.auto.out c.requires.room in
-    (c.word_size-size.ensures.some, (c.word_size-size.ensures.most, index-within k c.loop-i.i c.args.count c.word_size-size.result (length c.loop-i.out) c.word_size-size.ensures.size c.loop-i-test.true l))
+    record {
+      some = c.word_size-size.ensures.some;
+      most = c.word_size-size.ensures.most;
+      room = index-within k c.loop-i.i c.args.count c.word_size-size.result (length c.loop-i.out) c.word_size-size.ensures.size c.loop-i-test.true l;
+    }
 
 pub loop-i-preserved : goal.loop-i-preserved
 loop-i-preserved g c =
@@ -43,7 +48,7 @@ loop-i-preserved g c =
     let o : List ℕ = c.loop-i.out in
     let t = c.in-Ok.taken in
     let s : t.len ≤ 64 = taken-short C (g.C.Coder.sound c.args.coder.now) c.loop-i.memory f c.loop-i.at.bits t.word t.len t.next c.in-Ok.ensures in
-    let p : c.new-at-in-Ok.result.bits ≡ c.loop-i.at.bits + t.len = omega (arith, c.new-at-in-Ok.ensures, c.bits.ensures) in
+    let p : c.new-at-in-loop-i.result.bits ≡ c.loop-i.at.bits + t.len = omega (arith, c.new-at-in-loop-i.ensures, c.bits.ensures) in
     let w : c.put_word_at.new.raw ≡ put_bits o (8 * (k * i)) (bits (8 * k) t.word) = raw-put k i c.word_size-size.result t.word o c.put_word_at.new.raw c.word_size-size.ensures.size c.put_word_at.ensures in
     let q : k * (i + 1) ≡ k * i + k = omega (arith, mul-add k i 1) in (
       ap (λ z. spread k C t.next f z c.put_word_at.new.raw (k * (i + 1)) (n - (i + 1))) p

@@ -96,5 +96,16 @@ fields-length c w i =
     ap length (description_is false c)
     ∙ simp (length-append, length-bits) (omega (arith, l))
 
+pub fields-plain : (c : Channel) → (c.algorithm ≡ 1 → ⊥) → (c.algorithm ≡ 6 → ⊥) → length (description_bits false c) ≡ 14
+fields-plain c x y =
+    let l = fields-length c (width c.kind) refl in
+    let a : eqb c.algorithm 1 ≡ false = ne_eqb c.algorithm 1 x in
+    let b : eqb c.algorithm 6 ≡ false = ne_eqb c.algorithm 6 y in
+    l ∙ ap (λ t. 14 + cond (ltb 0 (width c.kind) && t) (width c.kind + 5) (cond (eqb c.algorithm 6) (width c.kind) 0)) a ∙ ap (λ t. 14 + cond (ltb 0 (width c.kind) && false) (width c.kind + 5) (cond t (width c.kind) 0)) b ∙ by-test (ltb 0 (width c.kind))
+  where
+    by-test : (t : Bool) → 14 + cond (t && false) (width c.kind + 5) 0 ≡ 14
+    by-test true = refl
+    by-test false = refl
+
 pub length-recorded : (c : Channel) → length (description_bits true c) ≡ 24 + length (description_bits false c)
 length-recorded c = ap length (repeats-first c) ∙ simp (length-append, length-bits)

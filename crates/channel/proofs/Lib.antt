@@ -1,3 +1,4 @@
 pub mod Describing
 pub mod Packing
 pub mod Putting
+pub mod Named

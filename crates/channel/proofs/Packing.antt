@@ -82,6 +82,9 @@ few c h =
     let m = narrow-width c.kind in
     record { turn = omega arith; kind = kind-few c.kind (omega arith); wide = omega arith; suit = h3 }
 
+pub covered : (c : Channel) → ruled c ≡ true → 0 < width c.kind
+covered c h = (few c h).wide
+
 suit-one : (w n v : ℕ) → suits w 1 n v ≡ true → (n ≤ w) × (v < 2 ^ w)
 suit-one w n v h = (grind (arith, nat_tests), grind (arith, nat_tests))
 

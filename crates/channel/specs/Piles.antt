@@ -3,6 +3,7 @@ use Rattle.std.specs.Prelude.{◌≡◌, ℕ, ◌%◌, ◌<◌, ◌≤◌, true,
 use Rattle.forms.specs.Coding.{Coding}
 use Rattle.forms.specs.Coders.{plain, turn, delta_if}
 use Rattle.coders.specs.Chosen.{coding_of}
+use Rattle.coders.specs.Flagged.{is_on, inner_of}
 use Rattle.coders.specs.declared.kinds.Algorithm.{Algorithm}
 use Rattle.coder.specs.declared.turn.Turn.{Turn}
 use Rattle.coders.specs.declared.flagged.FlaggedDelta.{FlaggedDelta}
@@ -18,7 +19,7 @@ AlgorithmOf W c (Some a) = W ≡ width c.kind → coding_of W a ≡ plain (algor
 
 -- a pile's coding: the turn, then the delta if it is on, then the algorithm
 abbrev pub pile_coding : (W : ℕ) → Turn (FlaggedDelta (Algorithm W)) → Coding (ℕ × Unit {0})
-pile_coding W p = turn W (p.by % W) (delta_if W p.inner.on (coding_of W p.inner.delta.inner))
+pile_coding W p = turn W (p.by % W) (delta_if W (is_on p.inner) (coding_of W (inner_of p.inner)))
 
 abbrev pub coder_coding : ChannelCoder → Coding (ℕ × Unit {0})
 coder_coding (Byte p) = pile_coding 8 p

@@ -5,7 +5,7 @@ ghost use Rattle.layout.specs.Channels.{ruled};
 ghost use Rattle.channel.specs.Records.{described, settings_of};
 ghost use Rattle.channel.specs.Descriptions.{description_bits, describes};
 
-use crate::make::width_of;
+use crate::names::{Method, WordSize};
 use crate::record::{Channel, Settings};
 use fields::field::put_field;
 use fields::place::BitPlace;
@@ -14,19 +14,28 @@ use limits::MOST_BYTES;
 // The bits of the field of repeats.
 const REPEATS_LEN: u32 = 24;
 
+// The bits of the fields that each channel has: whether there is a delta, the turn, the algorithm and the type.
+const FIELDS_LEN: u32 = 14;
+
+// The bits of the field of R.
+const NARROW_LEN: u32 = 5;
+
 impl Settings {
     // How many bits the fields behind the repeats take.
     fn fields_len(&self) -> u32
         ensures len { result ≡ length (description_bits false (described self.now)) }
         ensures most { result ≤ 51 }
     {
-        let width = width_of(self.kind);
-        if width > 0 && self.algorithm == 1 {
-            14 + width + 5
-        } else if self.algorithm == 6 {
-            14 + width
-        } else {
-            14
+        let Ok(size) = WordSize::try_from(self.kind) else {
+            return FIELDS_LEN;
+        };
+        let Ok(method) = Method::try_from(self.algorithm) else {
+            return FIELDS_LEN;
+        };
+        match method {
+            Method::Null => FIELDS_LEN,
+            Method::Reduced => FIELDS_LEN + size.bits() + NARROW_LEN,
+            Method::Constant => FIELDS_LEN + size.bits(),
         }
     }
 
@@ -35,17 +44,24 @@ impl Settings {
         requires { ruled (described self.now) ≡ true }
         ensures { bits (length (description_bits false (described self.now))) result ≡ description_bits false (described self.now) }
     {
-        let width = width_of(self.kind);
         let front = (self.delta as u64)
             | ((self.turn as u64) << 1)
             | ((self.algorithm as u64) << 6)
             | ((self.kind as u64) << 10);
-        if self.algorithm == 1 {
-            front | ((self.value as u64) << 14) | (((self.narrow - 1) as u64) << (14 + width))
-        } else if self.algorithm == 6 {
-            front | ((self.value as u64) << 14)
-        } else {
-            front
+        let Ok(size) = WordSize::try_from(self.kind) else {
+            return front;
+        };
+        let Ok(method) = Method::try_from(self.algorithm) else {
+            return front;
+        };
+        match method {
+            Method::Null => front,
+            Method::Reduced => {
+                front
+                    | ((self.value as u64) << FIELDS_LEN)
+                    | (((self.narrow - 1) as u64) << (FIELDS_LEN + size.bits()))
+            }
+            Method::Constant => front | ((self.value as u64) << FIELDS_LEN),
         }
     }
 }

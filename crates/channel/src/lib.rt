@@ -4,7 +4,8 @@
 pub mod channel_coder;
 pub mod describe;
 pub mod make;
-pub mod moved;
+pub mod names;
 pub mod pile;
 pub mod record;
 pub mod words;
+pub mod work;

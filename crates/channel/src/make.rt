@@ -2,35 +2,26 @@
 ghost use Rattle.std.specs.Prelude.{◌≡◌, ◌/◌, ◌≤◌};
 ghost use Rattle.faults.specs.Faults.{answered};
 ghost use Rattle.layout.specs.Channels.{width, suits, ruled};
+ghost use Rattle.channel.specs.Names.{size_bits};
 ghost use Rattle.channel.specs.Records.{described, settings_of, rested, remembering, channel_answer, parts, plain};
 
+use crate::names::{Method, WordSize};
 use crate::record::{Channel, Settings};
 use faults::kind::{Fault, Kind};
-use fields::place::BitPlace;
 use limits::MOST_REPEATS;
 
-// The width of a type's words, and 0 where the type is not covered.
-pub fn width_of(kind: u32) -> u32
-    ensures { result ≡ width kind }
+// Do R and the value suit the algorithm, for words of a size?
+fn suits_algorithm(size: WordSize, algorithm: u32, narrow: u32, value: u32) -> bool
+    ensures { result ≡ suits (size_bits size) algorithm narrow value }
 {
-    match kind {
-        1 | 2 | 5 => 32,
-        3 | 4 => 16,
-        7 | 8 => 8,
-        _ => 0,
-    }
-}
-
-// Do R and the value suit the algorithm?
-fn suits_algorithm(width: u32, algorithm: u32, narrow: u32, value: u32) -> bool
-    requires { width ≤ 32 }
-    ensures { result ≡ suits width algorithm narrow value }
-{
-    match algorithm {
-        0 => narrow == 0 && value == 0,
-        1 => 0 < narrow && narrow <= width && (value as u64) < 1u64 << width,
-        6 => narrow == 0 && (value as u64) < 1u64 << width,
-        _ => false,
+    let Ok(method) = Method::try_from(algorithm) else {
+        return false;
+    };
+    let is_word = (value as u64) < 1u64 << size.bits();
+    match method {
+        Method::Null => narrow == 0 && value == 0,
+        Method::Reduced => 0 < narrow && narrow <= size.bits() && is_word,
+        Method::Constant => narrow == 0 && is_word,
     }
 }
 
@@ -39,11 +30,13 @@ impl Settings {
     pub fn keeps_rules(&self) -> bool
         ensures { result ≡ ruled (described self.now) }
     {
-        let width = width_of(self.kind);
-        if width > 32 || self.repeats == 0 || self.repeats > MOST_REPEATS || self.turn >= width {
+        let Ok(size) = WordSize::try_from(self.kind) else {
+            return false;
+        };
+        if self.repeats == 0 || self.repeats > MOST_REPEATS || self.turn >= size.bits() {
             return false;
         }
-        suits_algorithm(width, self.algorithm, self.narrow, self.value)
+        suits_algorithm(size, self.algorithm, self.narrow, self.value)
     }
 }
 
@@ -91,22 +84,14 @@ impl Channel {
         ensures bytes { result ≡ width self.now.settings.kind / 8 }
         ensures most { result ≤ 4 }
     {
-        match width_of(self.settings.kind) {
-            32 => 4,
-            16 => 2,
-            8 => 1,
-            _ => 0,
-        }
+        WordSize::try_from(self.settings.kind).map_or(0, |size| size.bytes())
     }
 
     // The row with another memory.
     pub fn remembering(&self, memory: u32) -> Channel
         ensures { result ≡ remembering self.now memory }
     {
-        Channel {
-            settings: self.settings,
-            memory,
-        }
+        Channel { memory, ..*self }
     }
 
     // The row at its starting memory.
@@ -139,10 +124,7 @@ pub fn channel(
         value,
     };
     if !settings.keeps_rules() {
-        return Err(Fault {
-            kind: Kind::BadSetting,
-            place: BitPlace::new(0),
-        });
+        return Err(Kind::BadSetting.at_start());
     }
     Ok(Channel {
         settings,

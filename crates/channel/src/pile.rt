@@ -4,9 +4,8 @@ ghost use Rattle.channel.specs.Records.{settings_of, described};
 ghost use Rattle.channel.specs.Piles.{AlgorithmOf, PileOf, CoderOf};
 
 use crate::channel_coder::ChannelCoder;
-use crate::make::width_of;
+use crate::names::{Method, WordSize};
 use crate::record::{Channel, Settings};
-use coder::delta::Delta;
 use coder::turn::Turn;
 use coders::flagged::FlaggedDelta;
 use coders::kinds::{Algorithm, Constant, Null, Reduced};
@@ -16,20 +15,10 @@ use coders::pile::Pile;
 fn algorithm_of<const W: u32>(s: &Settings) -> Option<Algorithm<W>>
     ensures { AlgorithmOf W (described s.now) result }
 {
-    match s.algorithm {
-        0 => match Null::<W>::new() {
-            Some(c) => Some(Algorithm::Null(c)),
-            None => None,
-        },
-        1 => match Reduced::<W>::new(s.narrow, s.value) {
-            Some(c) => Some(Algorithm::Reduced(c)),
-            None => None,
-        },
-        6 => match Constant::<W>::new(s.value) {
-            Some(c) => Some(Algorithm::Constant(c)),
-            None => None,
-        },
-        _ => None,
+    match Method::try_from(s.algorithm).ok()? {
+        Method::Null => Null::new().map(Algorithm::Null),
+        Method::Reduced => Reduced::new(s.narrow, s.value).map(Algorithm::Reduced),
+        Method::Constant => Constant::new(s.value).map(Algorithm::Constant),
     }
 }
 
@@ -37,16 +26,11 @@ fn algorithm_of<const W: u32>(s: &Settings) -> Option<Algorithm<W>>
 fn pile_of<const W: u32>(s: &Settings) -> Option<Pile<W>>
     ensures { PileOf W (described s.now) result }
 {
-    match algorithm_of::<W>(s) {
-        None => None,
-        Some(inner) => Some(Turn {
-            inner: FlaggedDelta {
-                delta: Delta { inner },
-                on: s.delta,
-            },
-            by: s.turn,
-        }),
-    }
+    let algorithm = algorithm_of::<W>(s)?;
+    Some(Turn {
+        inner: FlaggedDelta::new(algorithm, s.delta),
+        by: s.turn,
+    })
 }
 
 impl Settings {
@@ -57,20 +41,10 @@ impl Settings {
         if !self.keeps_rules() {
             return None;
         }
-        match width_of(self.kind) {
-            8 => match pile_of::<8>(self) {
-                Some(pile) => Some(ChannelCoder::Byte(pile)),
-                None => None,
-            },
-            16 => match pile_of::<16>(self) {
-                Some(pile) => Some(ChannelCoder::Half(pile)),
-                None => None,
-            },
-            32 => match pile_of::<32>(self) {
-                Some(pile) => Some(ChannelCoder::Full(pile)),
-                None => None,
-            },
-            _ => None,
+        match WordSize::try_from(self.kind).ok()? {
+            WordSize::Byte => pile_of(self).map(ChannelCoder::Byte),
+            WordSize::Half => pile_of(self).map(ChannelCoder::Half),
+            WordSize::Full => pile_of(self).map(ChannelCoder::Full),
         }
     }
 }

@@ -1,52 +1,68 @@
 // One word of a channel, by the generic step at its pile.
 ghost use Rattle.std.specs.Prelude.{◌≡◌, length};
 ghost use Rattle.faults.specs.Faults.{answered};
-ghost use Rattle.coder.specs.Steps.{put_answer, put_bytes, take_answer};
+ghost use Rattle.coder.specs.Steps.{put_answer, put_bytes, put_parts, take_answer, taken_parts};
 ghost use Rattle.channel.specs.Piles.{coder_coding};
-ghost use Rattle.channel.specs.Words.{put_parts, taken_parts, kept_put, kept_taken};
+ghost use Rattle.channel.specs.Words.{kept_put, kept_taken};
 
 use crate::channel_coder::ChannelCoder;
-use crate::moved::{WordPut, WordTaken};
+use crate::work::Work;
 use coder::coder::Coder;
+use coder::step::{Put, Taken};
 use coder::steps::{put_word, take_word};
-use coders::pile::Pile;
 use faults::kind::Fault;
 use fields::place::BitPlace;
 
-fn put_at<C: Coder<Memory = (u32, ())>>(
-    coder: &C,
+// A word to put behind a memory, at a place.
+#[derive(Clone, Copy)]
+struct Putting {
     memory: u32,
     word: u32,
-    buffer: &mut [u8],
     at: BitPlace,
-) -> Result<WordPut, Fault>
-    ensures answer { answered put_parts result ≡ kept_put (put_answer (C.Coder.coding coder.now) (memory, tt) word at.bits (length buffer.old)) }
-    ensures bytes { buffer.new ≡ put_bytes (C.Coder.coding coder.now) (memory, tt) word at.bits buffer.old }
-{
-    match put_word(coder, (memory, ()), word, buffer, at) {
-        Ok(put) => Ok(WordPut {
+}
+
+impl Work for Putting {
+    type Answer = Result<Put<u32>, Fault>;
+
+    ghost Does = { λ p w C b r d. (answered put_parts r ≡ kept_put (put_answer C (p.memory, tt) p.word p.at.bits (length b))) × (d ≡ put_bytes C (p.memory, tt) p.word p.at.bits b) };
+
+    fn run<C: Coder<Memory = (u32, ())>>(
+        self,
+        coder: &C,
+        buffer: &mut [u8],
+    ) -> Result<Put<u32>, Fault> {
+        let put = put_word(coder, (self.memory, ()), self.word, buffer, self.at)?;
+        Ok(Put {
             len: put.len,
-            memory: put.next.0,
-        }),
-        Err(fault) => Err(fault),
+            next: put.next.0,
+        })
     }
 }
 
-fn take_at<C: Coder<Memory = (u32, ())>>(
-    coder: &C,
+// A word to take behind a memory, at a place of a file.
+#[derive(Clone, Copy)]
+struct Taking<'a> {
     memory: u32,
-    file: &[u8],
+    file: &'a [u8],
     at: BitPlace,
-) -> Result<WordTaken, Fault>
-    ensures { answered taken_parts result ≡ kept_taken (take_answer (C.Coder.coding coder.now) (memory, tt) file.now at.bits) }
-{
-    match take_word(coder, (memory, ()), file, at) {
-        Ok(taken) => Ok(WordTaken {
+}
+
+impl Work for Taking<'_> {
+    type Answer = Result<Taken<u32>, Fault>;
+
+    ghost Does = { λ t w C b r d. answered taken_parts r ≡ kept_taken (take_answer C (t.memory, tt) t.file.now t.at.bits) };
+
+    fn run<C: Coder<Memory = (u32, ())>>(
+        self,
+        coder: &C,
+        _buffer: &mut [u8],
+    ) -> Result<Taken<u32>, Fault> {
+        let taken = take_word(coder, (self.memory, ()), self.file, self.at)?;
+        Ok(Taken {
             word: taken.word,
             len: taken.len,
-            memory: taken.next.0,
-        }),
-        Err(fault) => Err(fault),
+            next: taken.next.0,
+        })
     }
 }
 
@@ -58,25 +74,17 @@ impl ChannelCoder {
         word: u32,
         buffer: &mut [u8],
         at: BitPlace,
-    ) -> Result<WordPut, Fault>
+    ) -> Result<Put<u32>, Fault>
         ensures answer { answered put_parts result ≡ kept_put (put_answer (coder_coding self.now) (memory, tt) word at.bits (length buffer.old)) }
         ensures bytes { buffer.new ≡ put_bytes (coder_coding self.now) (memory, tt) word at.bits buffer.old }
     {
-        match self {
-            ChannelCoder::Byte(pile) => put_at(pile, memory, word, buffer, at),
-            ChannelCoder::Half(pile) => put_at(pile, memory, word, buffer, at),
-            ChannelCoder::Full(pile) => put_at(pile, memory, word, buffer, at),
-        }
+        self.run(Putting { memory, word, at }, buffer)
     }
 
     // Reads the word whose form begins at a place.
-    pub fn take(&self, memory: u32, file: &[u8], at: BitPlace) -> Result<WordTaken, Fault>
+    pub fn take(&self, memory: u32, file: &[u8], at: BitPlace) -> Result<Taken<u32>, Fault>
         ensures { answered taken_parts result ≡ kept_taken (take_answer (coder_coding self.now) (memory, tt) file.now at.bits) }
     {
-        match self {
-            ChannelCoder::Byte(pile) => take_at(pile, memory, file, at),
-            ChannelCoder::Half(pile) => take_at(pile, memory, file, at),
-            ChannelCoder::Full(pile) => take_at(pile, memory, file, at),
-        }
+        self.run(Taking { memory, file, at }, &mut [])
     }
 }

@@ -1,7 +1,9 @@
 -- Raw words, one by one and all together.
 use Rattle.std.proofs.Common.{◌≡◌, ℕ, zero, suc, ◌+◌, ◌-◌, ◌*◌, ◌/◌, ◌<◌, ◌≤◌, List, [], ◌∷◌, length, get_or, take, drop, sym, refl, ap, ◌∙◌, append-nil, mul-zero, mul-suc, arith, length-append, length-drop, length-take}
 use native.Mathlib.Nat.{div-eq_of_lt, div-eq-sub-div}
-use Rattle.std.proofs.lemmas.List.{drop-drop, take_at}
+use Rattle.std.proofs.Math.Nat.{mul-div_cancel_left}
+use Rattle.std.proofs.Math.Seq.{take-add}
+use Rattle.std.proofs.lemmas.List.{drop-drop, drop-take, take_at}
 use Rattle.bits.specs.Bits.{bits, number, bits_of, bytes, field_at, Bytes}
 use Rattle.bits.specs.Raw.{raw_words, raw_bytes, words_in}
 use Rattle.bits.proofs.Files.{length-bits_of, take-bits_of, drop-bits_of, length-bytes}
@@ -72,3 +74,23 @@ words_more k raw s h =
   where
     add-one : (n : ℕ) → n + 1 ≡ suc n
     add-one n = omega arith
+
+-- the first n words
+first-words : (k n : ℕ) (raw : List ℕ) → k * n ≤ length raw → raw_words k n (take (k * n) raw) ≡ raw_words k n raw
+unfolding raw_words
+first-words k zero raw h = refl
+first-words k (suc n) raw h =
+    let m : k * suc n ≡ k + k * n = omega (arith, mul-suc k n) in
+    let l : k + k * n ≤ length raw = omega arith in
+    let T : List ℕ = take (k + k * n) raw in
+    let lT : length T ≡ k + k * n = simp length-take (omega arith) in
+    let a : take k T ≡ take k raw = ap (take k) (take-add k (k * n) raw) ∙ take_at (take k raw) (take (k * n) (drop k raw)) k (simp length-take (omega arith)) in
+    let f : field_at T 0 (8 * k) ≡ field_at raw 0 (8 * k) = sym (field-part T 0 k (omega arith)) ∙ ap (λ z. field_at z 0 (8 * k)) a ∙ field-part raw 0 k (omega arith) in
+    let d : drop k T ≡ take (k * n) (drop k raw) = drop-take k (k * n) raw in
+    let r = first-words k n (drop k raw) (simp length-drop (omega arith)) in
+    ap (λ z. raw_words k (suc n) (take z raw)) m ∙ ap (λ z. z ∷ raw_words k n (drop k T)) f ∙ ap (λ z. field_at raw 0 (8 * k) ∷ z) (ap (raw_words k n) d ∙ r)
+
+pub words_in-first : (k n : ℕ) (raw : List ℕ) → 1 ≤ k → k * n ≤ length raw → words_in k (take (k * n) raw) ≡ raw_words k n raw
+words_in-first k n raw s h =
+    let l : length (take (k * n) raw) ≡ k * n = simp length-take (omega arith) in
+    ap (λ z. raw_words k (z / k) (take (k * n) raw)) l ∙ ap (λ z. raw_words k z (take (k * n) raw)) (mul-div_cancel_left n s) ∙ first-words k n raw h

@@ -6,10 +6,8 @@ ghost use Rattle.channel.specs.Piles.{coder_coding};
 ghost use Rattle.channel.specs.Words.{kept_put, kept_taken};
 
 use crate::channel_coder::ChannelCoder;
-use crate::work::Work;
-use coder::coder::Coder;
+use crate::work::{PileCoder, Work};
 use coder::step::{Put, Taken};
-use coder::steps::{put_word, take_word};
 use faults::kind::Fault;
 use fields::place::BitPlace;
 
@@ -26,16 +24,8 @@ impl Work for Putting {
 
     ghost Does = { λ p w C b r d. (answered put_parts r ≡ kept_put (put_answer C (p.memory, tt) p.word p.at.bits (length b))) × (d ≡ put_bytes C (p.memory, tt) p.word p.at.bits b) };
 
-    fn run<C: Coder<Memory = (u32, ())>>(
-        self,
-        coder: &C,
-        buffer: &mut [u8],
-    ) -> Result<Put<u32>, Fault> {
-        let put = put_word(coder, (self.memory, ()), self.word, buffer, self.at)?;
-        Ok(Put {
-            len: put.len,
-            next: put.next.0,
-        })
+    fn run<C: PileCoder>(self, coder: &C, buffer: &mut [u8]) -> Result<Put<u32>, Fault> {
+        coder.put_from(self.memory, self.word, buffer, self.at)
     }
 }
 
@@ -52,17 +42,8 @@ impl Work for Taking<'_> {
 
     ghost Does = { λ t w C b r d. answered taken_parts r ≡ kept_taken (take_answer C (t.memory, tt) t.file.now t.at.bits) };
 
-    fn run<C: Coder<Memory = (u32, ())>>(
-        self,
-        coder: &C,
-        _buffer: &mut [u8],
-    ) -> Result<Taken<u32>, Fault> {
-        let taken = take_word(coder, (self.memory, ()), self.file, self.at)?;
-        Ok(Taken {
-            word: taken.word,
-            len: taken.len,
-            next: taken.next.0,
-        })
+    fn run<C: PileCoder>(self, coder: &C, _buffer: &mut [u8]) -> Result<Taken<u32>, Fault> {
+        coder.take_from(self.memory, self.file, self.at)
     }
 }
 

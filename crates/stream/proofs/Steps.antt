@@ -1,12 +1,10 @@
 -- The loop over the words, one step and all together.
-use Rattle.std.proofs.Common.{◌≡◌, ℕ, ◌+◌, ◌*◌, ◌/◌, ◌<◌, ◌≤◌, Bool, true, false, cond, ◌||◌, ltb, leb, List, length, get_or, drop, Some, None, Option, sym, ap, ◌∙◌, mul-le-mul_left, arith}
+use Rattle.std.proofs.Common.{◌≡◌, ℕ, ◌+◌, ◌*◌, ◌/◌, ◌<◌, ◌≤◌, Bool, true, false, cond, ◌||◌, ltb, leb, List, [], ◌∷◌, length, Some, None, Option, sym, ap, ◌∙◌, mul-le-mul_left, arith}
 use native.Mathlib.Nat.{mul-div-le}
-use Rattle.std.proofs.lemmas.List.{at_drop_more, at_drop_all}
 use Rattle.std.proofs.lemmas.Bool.{lt-ltb, le-ltb, le-leb}
 use Rattle.std.proofs.lemmas.Bool.Decides.{nat_tests}
-use Rattle.bits.specs.Bits.{bits, put_bits, field_at}
+use Rattle.bits.specs.Bits.{bits, put_bits}
 use Rattle.bits.specs.Raw.{raw_words}
-use Rattle.bits.proofs.Raw.{word_at}
 use Rattle.bits.proofs.Numbers.{length-bits}
 use Rattle.fields.specs.Fields.{is_field}
 use Rattle.forms.specs.Coding.{Coding, encoded}
@@ -14,40 +12,27 @@ use Rattle.layout.specs.Slim.{most_bytes}
 use Rattle.calls.specs.Calls.{form_in, memory_of}
 use Rattle.stream.specs.Stream.{Stream, stopped, streamed, unfit, put_stream}
 
--- ## Raw words
-
 -- so many words lie within the raw bytes
-pub words-within : (k n size l : ℕ) → size ≡ k → n ≤ l / size → k * n ≤ l
-words-within k n size l e b = rw (← e) (omega (arith, mul-le-mul_left size b, mul-div-le l size))
-
--- the word at an index too
-pub index-within : (i n size l : ℕ) → i < n → n ≤ l / size → size * (i + 1) ≤ l
-index-within i n size l h b = omega (arith, mul-le-mul_left size (next h), mul-le-mul_left size b, mul-div-le l size)
-  where
-    next : i < n → i + 1 ≤ n
-    next h = omega arith
-
--- and is the word of the list
-pub index_word : (k n : ℕ) (raw : List ℕ) (i size x : ℕ) → size ≡ k → i < n → n ≤ length raw / size → x ≡ field_at raw (8 * (size * i)) (8 * size) → x ≡ get_or (raw_words k n raw) i 0
-index_word k n raw i size x e h b d = d ∙ ap (λ z. field_at raw (8 * (z * i)) (8 * z)) e ∙ sym (word_at k n raw i h (words-within k n size (length raw) e b))
+pub words-within : (n size l : ℕ) → n ≤ l / size → size * n ≤ l
+words-within n size l b = omega (arith, mul-le-mul_left size b, mul-div-le l size)
 
 -- ## One word
 
-module _ (C : Coding (ℕ × Unit {0})) (len : ℕ) (xs : List ℕ) (i : ℕ) (h : i < length xs) (m x : ℕ) (is : x ≡ get_or xs i 0) (at : ℕ) (b : List ℕ) where
+module _ (C : Coding (ℕ × Unit {0})) (len x : ℕ) (xs ys : List ℕ) (is : ys ≡ x ∷ xs) (i m : ℕ) (at : ℕ) (b : List ℕ) where
   -- by what the coder answers
   next : Option (List Bool × (ℕ × Unit {0})) → Stream
   next o =
       elim (stopped len at o) [
-        | None ↦ streamed C len (i + 1) (memory_of o) (at + length (form_in o)) (put_bits b at (form_in o)) (drop (i + 1) xs)
+        | None ↦ streamed C len (i + 1) (memory_of o) (at + length (form_in o)) (put_bits b at (form_in o)) xs
         | Some f ↦ record { words = i; at = at; memory = m; fault = Some f; bytes = b }
       ]
 
-  steps : (o : Option (List Bool × (ℕ × Unit {0}))) → o ≡ encoded C (m, tt) x → streamed C len i m at b (drop i xs) ≡ next o
+  steps : (o : Option (List Bool × (ℕ × Unit {0}))) → o ≡ encoded C (m, tt) x → streamed C len i m at b ys ≡ next o
   unfolding streamed next
-  steps o e = at_drop_more (streamed C len i m at b) xs i 0 h ∙ ap (λ z. next (encoded C (m, tt) z)) (sym is) ∙ ap next (sym e)
+  steps o e = ap (streamed C len i m at b) is ∙ ap next (sym e)
 
   -- no form
-  pub stop-none : None ≡ encoded C (m, tt) x → streamed C len i m at b (drop i xs) ≡ record { words = i; at = at; memory = m; fault = Some 7; bytes = b }
+  pub stop-none : None ≡ encoded C (m, tt) x → streamed C len i m at b ys ≡ record { words = i; at = at; memory = m; fault = Some 7; bytes = b }
   unfolding next
   stop-none e = steps None e
 
@@ -56,27 +41,27 @@ module _ (C : Coding (ℕ × Unit {0})) (len : ℕ) (xs : List ℕ) (i : ℕ) (h
     chosen : Bool → Stream
     chosen t =
         elim (cond {A = Option ℕ} t (Some 2) None) [
-          | None ↦ streamed C len (i + 1) k.0 (at + length (bits n v)) (put_bits b at (bits n v)) (drop (i + 1) xs)
+          | None ↦ streamed C len (i + 1) k.0 (at + length (bits n v)) (put_bits b at (bits n v)) xs
           | Some f ↦ record { words = i; at = at; memory = m; fault = Some f; bytes = b }
         ]
 
-    chooses : (t : Bool) → ltb (8 * len) (at + n) ≡ t → streamed C len i m at b (drop i xs) ≡ chosen t
+    chooses : (t : Bool) → ltb (8 * len) (at + n) ≡ t → streamed C len i m at b ys ≡ chosen t
     unfolding next chosen
     chooses t d = steps (Some (bits n v, k)) e ∙ ap (λ z. chosen (ltb (8 * len) (at + z))) (length-bits n v) ∙ ap chosen d
 
     -- no room
-    pub stop-room : 8 * len < at + n → streamed C len i m at b (drop i xs) ≡ record { words = i; at = at; memory = m; fault = Some 2; bytes = b }
+    pub stop-room : 8 * len < at + n → streamed C len i m at b ys ≡ record { words = i; at = at; memory = m; fault = Some 2; bytes = b }
     unfolding chosen
     stop-room r = chooses true (lt-ltb (8 * len) (at + n) r)
 
-    pub goes_on-is : at + n ≤ 8 * len → streamed C len i m at b (drop i xs) ≡ streamed C len (i + 1) k.0 (at + n) (put_bits b at (bits n v)) (drop (i + 1) xs)
+    pub goes_on-is : at + n ≤ 8 * len → streamed C len i m at b ys ≡ streamed C len (i + 1) k.0 (at + n) (put_bits b at (bits n v)) xs
     unfolding chosen
-    goes_on-is r = chooses false (le-ltb (8 * len) (at + n) r) ∙ ap (λ z. streamed C len (i + 1) k.0 (at + z) (put_bits b at (bits n v)) (drop (i + 1) xs)) (length-bits n v)
+    goes_on-is r = chooses false (le-ltb (8 * len) (at + n) r) ∙ ap (λ z. streamed C len (i + 1) k.0 (at + z) (put_bits b at (bits n v)) xs) (length-bits n v)
 
 -- no word is left
-pub stream_all : (C : Coding (ℕ × Unit {0})) (len n m at : ℕ) (b xs : List ℕ) (i : ℕ) → length xs ≤ i → streamed C len n m at b (drop i xs) ≡ record { words = n; at = at; memory = m; fault = None; bytes = b }
+pub stream_all : (C : Coding (ℕ × Unit {0})) (len n m at : ℕ) (b ys : List ℕ) → ys ≡ [] → streamed C len n m at b ys ≡ record { words = n; at = at; memory = m; fault = None; bytes = b }
 unfolding streamed
-stream_all C len n m at b xs i h = at_drop_all (streamed C len n m at b) xs i h
+stream_all C len n m at b ys h = ap (streamed C len n m at b) h
 
 -- ## With the bits that wait
 
@@ -87,22 +72,22 @@ put_fits at n len h = grind (arith, nat_tests)
 put-passes : (at n len : ℕ) → n ≤ 64 → false ≡ is_field at n len → 8 * len < at + n
 put-passes at n len s h = grind (arith, nat_tests)
 
-module _ (C : Coding (ℕ × Unit {0})) (len : ℕ) (xs : List ℕ) (i : ℕ) (h : i < length xs) (m x : ℕ) (is : x ≡ get_or xs i 0) (at E : ℕ) (H : List ℕ) (L : Stream) (same : at ≡ E) (inv : streamed C len i m at H (drop i xs) ≡ L)
+module _ (C : Coding (ℕ × Unit {0})) (len x : ℕ) (xs ys : List ℕ) (is : ys ≡ x ∷ xs) (i m : ℕ) (at E : ℕ) (H : List ℕ) (L : Stream) (same : at ≡ E) (inv : streamed C len i m at H ys ≡ L)
     (n v : ℕ) (k : ℕ × Unit {0}) (e : Some (bits n v, k) ≡ encoded C (m, tt) x) (r : Bool) (J : List ℕ) (F : ℕ) (p : r ≡ is_field E n len) (j : J ≡ cond r (put_bits H E (bits n v)) H) (f : F ≡ cond r (E + n) E) where
-  pub push-more : true ≡ r → (streamed C len (i + 1) k.0 (at + n) J (drop (i + 1) xs) ≡ L) × (at + n ≡ F) × (at + n ≤ 8 * len)
+  pub push-more : true ≡ r → (streamed C len (i + 1) k.0 (at + n) J xs ≡ L) × (at + n ≡ F) × (at + n ≤ 8 * len)
   push-more t =
       let b : E + n ≤ 8 * len = put_fits E n len (t ∙ p) in
       let a : at + n ≤ 8 * len = omega arith in
       let q : J ≡ put_bits H at (bits n v) = j ∙ ap (λ z. cond z (put_bits H E (bits n v)) H) (sym t) ∙ ap (λ z. put_bits H z (bits n v)) (sym same) in
       let u : F ≡ E + n = f ∙ ap (λ z. cond z (E + n) E) (sym t) in
-      (ap (λ z. streamed C len (i + 1) k.0 (at + n) z (drop (i + 1) xs)) q ∙ sym (goes_on-is C len xs i h m x is at H n v k e a) ∙ inv, omega arith, a)
+      (ap (λ z. streamed C len (i + 1) k.0 (at + n) z xs) q ∙ sym (goes_on-is C len x xs ys is i m at H n v k e a) ∙ inv, omega arith, a)
 
   pub push-stop : n ≤ 64 → false ≡ r → (L ≡ record { words = i; at = at; memory = m; fault = Some 2; bytes = J }) × (F ≡ at)
   push-stop s t =
       let b : 8 * len < E + n = put-passes E n len s (t ∙ p) in
       let q : J ≡ H = j ∙ ap (λ z. cond z (put_bits H E (bits n v)) H) (sym t) in
       let u : F ≡ E = f ∙ ap (λ z. cond z (E + n) E) (sym t) in
-      (sym inv ∙ stop-room C len xs i h m x is at H n v k e (omega arith) ∙ ap (λ z. record { words = i; at = at; memory = m; fault = Some 2; bytes = z }) (sym q), omega arith)
+      (sym inv ∙ stop-room C len x xs ys is i m at H n v k e (omega arith) ∙ ap (λ z. record { words = i; at = at; memory = m; fault = Some 2; bytes = z }) (sym q), omega arith)
 
 -- ## The end
 

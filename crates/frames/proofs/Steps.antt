@@ -117,9 +117,8 @@ few_words cs raw W F words h w f e =
     (omega arith, omega arith)
 
 pub counted : (cs : List recordings.Channel) (raw W F : ℕ) (o : Option ℕ) → countable cs ≡ true → W ≡ frame_words cs → F ≡ frame_bytes cs → o ≡ count cs first (raw % F) →
-    more (W * (raw / F)) o ≡ cond (countable cs) (count cs first raw) None
+    more (W * (raw / F)) o ≡ count cs first raw
 counted cs raw W F o h w f e =
     let k = table_kept cs h in
     ap (more (W * (raw / F))) e ∙ ap (λ z. more (z * (raw / F)) (count cs first (raw % F))) w
     ∙ ap (λ z. more (frame_words cs * (raw / z)) (count cs first (raw % z))) f ∙ sym (count_divided cs k.bytes k.words k.some raw)
-    ∙ sym (ap (λ t. cond t (count cs first raw) None) h)

@@ -1,7 +1,10 @@
 // How many words some raw bytes are. Each channel gives its repeats in turn, frame after frame, so whole frames are counted by division.
 #![tactic(auto)]
 
-ghost use Rattle.std.specs.Prelude.{◌≡◌, ◌<◌, ◌≤◌, true, if◌then◌else◌, None};
+pub mod section;
+
+ghost use Rattle.std.specs.Prelude.{◌≡◌, ◌<◌, ◌≤◌, true, if◌then◌else◌, Some, None};
+ghost use Rattle.std.specs.Option.{option_map};
 ghost use Rattle.layout.specs.Channels.{ruled};
 ghost use Rattle.layout.specs.Turns.{first, count_words};
 ghost use Rattle.channel.specs.Records.{settings_of};
@@ -10,6 +13,7 @@ ghost use Rattle.frames.specs.Frames.{countable, row_bytes, frame_words, frame_b
 
 use channel::record::Channel;
 use limits::MOST_CHANNELS;
+use section::Rows;
 
 // The words of a frame, and their raw bytes.
 #[derive(Clone, Copy)]
@@ -49,43 +53,69 @@ fn row_bytes(row: &Channel) -> u32
     row.word_bytes() * row.repeats()
 }
 
-// The frame of some rows.
-fn frame_of(table: &[Channel]) -> Frame
-    requires { countable (settings table.now) ≡ true }
-    ensures words { result.words ≡ frame_words (settings table.now) }
-    ensures bytes { result.bytes ≡ frame_bytes (settings table.now) }
-{
-    let mut words = 0;
-    let mut bytes = 0;
-    for row in table {
-        words += row.repeats();
-        bytes += row_bytes(row);
-    }
-    Frame { words, bytes }
-}
-
-// How many words some raw bytes are that end within a frame.
-fn words_within(table: &[Channel], raw: u32) -> Option<u32>
-    requires rows { countable (settings table.now) ≡ true }
-    requires within { raw < frame_bytes (settings table.now) }
-    ensures { result ≡ count_words (settings table.now) first raw raw }
-{
-    let mut words = 0;
-    let mut left = raw;
-    for row in table {
-        let bytes = row_bytes(row);
-        if left < bytes {
-            let size = row.word_bytes();
-            return if left % size == 0 {
-                Some(words + left / size)
-            } else {
-                None
-            };
+impl<'a> Rows<'a> {
+    // Nothing where no section can have these rows.
+    pub fn of(table: &'a [Channel]) -> Option<Rows<'a>>
+        ensures { option_map (λ (r : Rows). r.table.now) result ≡ (if countable (settings table.now) then Some table.now else None) }
+    {
+        if !is_countable(table) {
+            return None;
         }
-        words += row.repeats();
-        left -= bytes;
+        Some(Rows { table })
     }
-    None
+
+    // The rows as they are.
+    pub fn table(self) -> &'a [Channel]
+        ensures { result.now ≡ self.entry.table.now }
+    {
+        self.table
+    }
+
+    // The frame of the rows.
+    fn frame(self) -> Frame
+        ensures words { result.words ≡ frame_words (settings self.entry.table.now) }
+        ensures bytes { result.bytes ≡ frame_bytes (settings self.entry.table.now) }
+    {
+        let mut words = 0;
+        let mut bytes = 0;
+        for row in self.table {
+            words += row.repeats();
+            bytes += row_bytes(row);
+        }
+        Frame { words, bytes }
+    }
+
+    // How many words some raw bytes are that end within a frame.
+    fn words_within(self, raw: u32) -> Option<u32>
+        requires { raw < frame_bytes (settings self.table.now) }
+        ensures { result ≡ count_words (settings self.entry.table.now) first raw raw }
+    {
+        let mut words = 0;
+        let mut left = raw;
+        for row in self.table {
+            let bytes = row_bytes(row);
+            if left < bytes {
+                let size = row.word_bytes();
+                return if left % size == 0 {
+                    Some(words + left / size)
+                } else {
+                    None
+                };
+            }
+            words += row.repeats();
+            left -= bytes;
+        }
+        None
+    }
+
+    // How many words some raw bytes are, from the first row on. Nothing where they end inside a word.
+    pub fn count_words(self, raw: u32) -> Option<u32>
+        ensures { result ≡ count_words (settings self.entry.table.now) first raw raw }
+    {
+        let frame = self.frame();
+        let words = self.words_within(raw % frame.bytes)?;
+        Some(frame.words * (raw / frame.bytes) + words)
+    }
 }
 
 // How many words of a table's rows some raw bytes are, from the first row on.
@@ -93,12 +123,5 @@ fn words_within(table: &[Channel], raw: u32) -> Option<u32>
 pub fn count_words(table: &[Channel], raw: u32) -> Option<u32>
     ensures { result ≡ (if countable (settings table.now) then count_words (settings table.now) first raw raw else None) }
 {
-    if !is_countable(table) {
-        return None;
-    }
-    let frame = frame_of(table);
-    match words_within(table, raw % frame.bytes) {
-        Some(words) => Some(frame.words * (raw / frame.bytes) + words),
-        None => None,
-    }
+    Rows::of(table)?.count_words(raw)
 }

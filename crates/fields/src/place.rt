@@ -1,5 +1,5 @@
 // Places in a buffer. A place in bits and a place in bytes are two types, and only the conversions named here lead from one to the other.
-ghost use Rattle.std.specs.Prelude.{◌≡◌, ℕ, ◌+◌, ◌-◌, ◌*◌, ◌/◌, ◌^◌, min};
+ghost use Rattle.std.specs.Prelude.{◌≡◌, ℕ, ◌+◌, ◌-◌, ◌*◌, ◌/◌, ◌^◌, ◌<◌, min};
 
 // How many bits stand before the place.
 #[derive(Clone, Copy, Debug, PartialEq, Eq)]
@@ -82,4 +82,17 @@ impl BytePlace {
 pub struct Cursor {
     pub at: BitPlace,
     pub last: BitPlace,
+}
+
+impl Cursor {
+    // Behind a field of so many bits that was taken.
+    pub fn past(self, count: u32) -> Cursor
+        ensures behind { result ≡ record { at = record { bits = min (self.at.bits + count) (2 ^ 64 - 1) }; last = self.at } }
+        ensures fits { self.at.bits < 2 ^ 64 }
+    {
+        Cursor {
+            at: self.at.plus(count as usize),
+            last: self.at,
+        }
+    }
 }

@@ -64,13 +64,6 @@ impl<'a> Rows<'a> {
         Some(Rows { table })
     }
 
-    // The rows as they are.
-    pub fn table(self) -> &'a [Channel]
-        ensures { result.now ≡ self.entry.table.now }
-    {
-        self.table
-    }
-
     // The frame of the rows.
     fn frame(self) -> Frame
         ensures words { result.words ≡ frame_words (settings self.entry.table.now) }

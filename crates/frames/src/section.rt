@@ -8,6 +8,6 @@ use channel::record::Channel;
 // From 1 to 32 rows, each of which keeps the rules.
 #[derive(Clone, Copy)]
 pub struct Rows<'a> {
-    pub(crate) table: &'a [Channel],
+    pub table: &'a [Channel],
     ghost countable: { countable (settings table.now) ≡ true },
 }

@@ -1,6 +1,7 @@
 -- A loop that reads values and does not keep them, and a word as a coder takes it.
-use Rattle.std.proofs.Common.{◌≡◌, ℕ, suc, ◌+◌, ◌-◌, ◌*◌, ◌<◌, ◌≤◌, cond, List, ◌∷◌, length, drop, Some, None, sym, refl, ap, ◌∙◌, arith, length-drop}
+use Rattle.std.proofs.Common.{◌≡◌, ℕ, suc, ◌+◌, ◌-◌, ◌*◌, ◌<◌, ◌≤◌, ◌^◌, min, cond, List, ◌∷◌, length, drop, Some, None, sym, refl, ap, ◌∙◌, arith, length-drop}
 use Rattle.std.proofs.lemmas.Bool.{le-leb, lt-leb}
+use Rattle.fields.specs.declared.place.Cursor.{Cursor}
 use Rattle.layout.specs.Slim.{most_bytes}
 use Rattle.bits.specs.Bits.{bits_of}
 use Rattle.bits.proofs.Files.{length-bits_of}
@@ -131,3 +132,10 @@ module _ (C : Coding (ℕ × Unit {0})) (f : List ℕ) (n : ℕ) where
 
   pub coder_unfit : (q k : ℕ) → 16777216 < length f → fault 1 0 ≡ coder_answer C f q k n
   coder_unfit q k h = sym (ap (λ t. cond t (places ((coder_words C n (0, tt)).reads (bits_of f) q k)) (fault 1 0)) (lt-leb (length f) most_bytes h))
+
+-- ## Where a reader stands
+
+-- behind a form that lies within a file
+pub stands_behind : (c d : Cursor) (n : ℕ) (f : List ℕ) → d ≡ record { at = record { bits = min (c.at.bits + n) (2 ^ 64 - 1) }; last = c.at } → n ≤ 8 * length f - c.at.bits → length f ≤ 16777216 → c.at.bits < 2 ^ 64 →
+    (d.at.bits ≡ c.at.bits + n) × (d.last.bits ≡ c.at.bits)
+stands_behind c d n f e a b h = (ap (λ z. z.at.bits) e ∙ omega arith, ap (λ z. z.last.bits) e)

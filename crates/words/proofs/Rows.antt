@@ -1,9 +1,10 @@
 -- The words of several channels in turn.
-use Rattle.std.proofs.Common.{◌≡◌, ℕ, ◌+◌, ◌-◌, ◌<◌, ◌≤◌, true, cond, ◌&&◌, leb, List, length, take, replicate, sym, ap, ◌∙◌, arith}
+use Rattle.std.proofs.Common.{◌≡◌, ℕ, ◌+◌, ◌-◌, ◌/◌, ◌<◌, ◌≤◌, Bool, true, false, cond, ◌&&◌, leb, List, length, take, replicate, Some, None, refl, sym, ap, ◌∙◌, arith}
 use Rattle.std.proofs.lemmas.List.{take-replicate}
 use Rattle.std.proofs.lemmas.Bool.{le-leb}
 use Rattle.bits.specs.Bits.{bits_of}
 use Rattle.forms.specs.Coding.{Coding}
+use Rattle.forms.proofs.Codes.{none-some, some_same}
 use Rattle.format.specs.Format.{Outcome, got, fault}
 use Rattle.format.specs.Word.{word}
 use Rattle.layout.specs.Recording as recordings
@@ -11,6 +12,9 @@ use Rattle.layout.specs.Channels.{code_at, pile}
 use Rattle.layout.specs.Slim.{most_bytes}
 use Rattle.layout.specs.Turns.{Turn, channel_of, memory_of, next_turn, words_from, first_turn}
 use Rattle.channel.specs.declared.record.Channel.{Channel}
+use Rattle.channel.specs.declared.channel_coder.ChannelCoder.{ChannelCoder}
+use Rattle.channel.specs.declared.channel_coder.ChannelCoder.TheVariants.{Byte, Half, Full}
+use Rattle.channel.specs.Piles.{coder_width}
 use Rattle.calls.specs.Calls.{settings}
 use Rattle.frames.specs.Frames.{countable}
 use Rattle.frames.proofs.Tables.{described, rows-many, table_kept}
@@ -67,3 +71,18 @@ pub passes-one : (t : List Channel) (f : List ℕ) (at last n : ℕ) (C : Coding
 passes-one t f at last n C o h l m p e =
     let a : length t ≡ 1 = omega (arith, rows-many t, (table_kept (settings t) h).some) in
     passes t f at last n o h l (e ∙ ap (λ z. cond z (places ((coder_words C n (0, tt)).reads (bits_of f) at last)) (fault 1 0)) (le-leb (length f) most_bytes l) ∙ row-alone t n f at last C a p)
+
+-- rows that were made of a table keep their rule
+pub kept-rule : (b : Bool) (x t : List Channel) → Some x ≡ cond b (Some t) None → b ≡ true
+kept-rule true x t e = refl
+kept-rule false x t e = absurd (none-some (sym e))
+
+pub same-rows : (b : Bool) (x t : List Channel) → Some x ≡ cond b (Some t) None → x ≡ t
+same-rows true x t e = some_same e
+same-rows false x t e = absurd (none-some (sym e))
+
+-- a channel's words are whole bytes
+pub whole-width : (k : ChannelCoder) → (coder_width k + 7) / 8 ≡ coder_width k / 8
+whole-width (Byte p) = refl
+whole-width (Half p) = refl
+whole-width (Full p) = refl

@@ -23,7 +23,7 @@ use Rattle.words.proofs.Passing.{took, took-not}
 
 -- ## A word that was taken, with its memory as a number
 
-kept_gives : (a : Answer (ℕ × ℕ × (ℕ × Unit {0}))) (x n k : ℕ) → gives (x, n, k) ≡ kept_taken a → gives (x, n, (k, tt)) ≡ a
+pub kept_gives : (a : Answer (ℕ × ℕ × (ℕ × Unit {0}))) (x n k : ℕ) → gives (x, n, k) ≡ kept_taken a → gives (x, n, (k, tt)) ≡ a
 kept_gives (gives (y, j, m)) x n k e = ap up e
   where
     up : Answer (ℕ × ℕ × ℕ) → Answer (ℕ × ℕ × (ℕ × Unit {0}))
@@ -31,7 +31,7 @@ kept_gives (gives (y, j, m)) x n k e = ap up e
     up (answers.fault i p) = answers.fault i p
 kept_gives (answers.fault i p) x n k e = let z : ◌≡◌ {A = ℕ} 0 1 = cc in absurd (omega arith)
 
-kept-fault : (a : Answer (ℕ × ℕ × (ℕ × Unit {0}))) (i p : ℕ) → answers.fault i p ≡ kept_taken a → answers.fault i p ≡ a
+pub kept-fault : (a : Answer (ℕ × ℕ × (ℕ × Unit {0}))) (i p : ℕ) → answers.fault i p ≡ kept_taken a → answers.fault i p ≡ a
 kept-fault (gives (y, j, m)) i p e = let z : ◌≡◌ {A = ℕ} 0 1 = cc in absurd (omega arith)
 kept-fault (answers.fault j q) i p e = ap up e
   where

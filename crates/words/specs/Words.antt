@@ -11,9 +11,9 @@ use Rattle.layout.specs.Channels.{code_at}
 use Rattle.layout.specs.Turns as turns
 use Rattle.layout.specs.Turns.{channel_of, memory_of, next_turn, words_from, first_turn}
 use Rattle.layout.specs.Slim.{most_bytes}
-use Rattle.channel.specs.declared.moved.WordTaken.{WordTaken}
+use Rattle.coder.specs.declared.step.Taken.{Taken}
 use Rattle.frames.specs.Frames.{countable}
-use Rattle.words.specs.declared.passed.Passed.{Passed}
+use Rattle.fields.specs.declared.place.Cursor.{Cursor}
 use Rattle.words.specs.declared.turn.Turn.{Turn}
 
 -- what reading gives, without the values
@@ -30,7 +30,7 @@ abbrev pub pass_answer : List Channel → List ℕ → ℕ → ℕ → ℕ → O
 pass_answer cs f at last n = cond (readable cs (length f)) (places ((words_from cs n (first_turn cs)).reads (bits_of f) at last)) (fault 1 0)
 
 -- what the code answers
-abbrev pub told : Result Passed Fault → Outcome (Unit {0})
+abbrev pub told : Result Cursor Fault → Outcome (Unit {0})
 told (Ok p) = got tt p.at.bits p.last.bits
 told (Err f) = fault (number_of f.kind) f.place.bits
 
@@ -58,16 +58,16 @@ unfoldable pub word_next : List Channel → turns.Turn → List ℕ → ℕ → 
 word_next cs t f at = (word (code_at (channel_of cs t.spot) (memory_of t))).reads (bits_of f) at 0
 
 -- a word that was taken at a place
-abbrev pub taken : ℕ → Result WordTaken Fault → Outcome ℕ
+abbrev pub taken : ℕ → Result (Taken ℕ) Fault → Outcome ℕ
 taken at (Ok t) = got t.word (at + t.len) at
 taken at (Err f) = fault (number_of f.kind) f.place.bits
 
 -- its form lies within so many bytes
-abbrev pub Within : ℕ → ℕ → Result WordTaken Fault → Type 0
+abbrev pub Within : ℕ → ℕ → Result (Taken ℕ) Fault → Type 0
 Within at len (Ok t) = t.len ≤ 8 * len - at
 Within at len (Err f) = Unit {0}
 
 -- the turn behind it
-abbrev pub turn_behind : List Channel → turns.Turn → Result WordTaken Fault → turns.Turn
+abbrev pub turn_behind : List Channel → turns.Turn → Result (Taken ℕ) Fault → turns.Turn
 turn_behind cs t (Ok w) = next_turn cs t w.word
 turn_behind cs t (Err f) = t

@@ -2,6 +2,5 @@
 #![tactic(auto)]
 
 pub mod pass;
-pub mod passed;
 pub mod spread;
 mod turn;

@@ -1,149 +1,84 @@
 // Words read one after the other and written as raw bytes.
-ghost use Rattle.std.specs.Prelude.{◌≡◌, ◌+◌, ◌/◌, ◌%◌, ◌≤◌, true, length};
-ghost use Rattle.forms.specs.Coders.{turn, delta_if};
+ghost use Rattle.std.specs.Prelude.{◌≡◌, ◌+◌, ◌/◌, ◌≤◌, length};
 ghost use Rattle.layout.specs.Turns.{first_turn};
-ghost use Rattle.channel.specs.Piles.{pile_coding, coder_coding, coder_width};
 ghost use Rattle.calls.specs.Calls.{settings};
-ghost use Rattle.frames.specs.Frames.{countable};
 ghost use Rattle.words.specs.Spread.{spread_answer, spread_bytes, coder_spread, turn_spread};
 
 use crate::pass::{first_turn, take_next};
-use channel::channel_coder::ChannelCoder;
 use channel::record::Channel;
-use coder::coder::Coder;
-use coder::delta::Delta;
-use coder::steps::take_word;
-use coder::turn::Turn;
-use coders::beside::Beside;
-use coders::kinds::Algorithm;
-use coders::pile::Pile;
+use channel::work::{PileCoder, Work};
 use fields::bytes::are_bytes;
-use fields::place::{BitPlace, BytePlace};
+use fields::place::{BitPlace, BytePlace, Cursor};
 use fields::raw::put_raw_word;
-use frames::is_countable;
+use frames::section::Rows;
 use limits::MOST_BYTES;
 
-// Reads so many words of one coder and writes them, up to the first that is not read or has no room.
-fn spread_coder<C: Coder<Memory = (u32, ())>>(
-    coder: &C,
-    file: &[u8],
+// So many words of a file, to read from a place on and to write from a byte on.
+#[derive(Clone, Copy)]
+struct Spreading<'a> {
+    file: &'a [u8],
     at: BitPlace,
     count: u32,
-    out: &mut [u8],
-    from: BytePlace,
-) -> bool
-    ensures { (result, out.new) ≡ coder_spread (C.Coder.coding coder.now) ((C.Coder.wide coder.now + 7) / 8) file.now at.bits count out.old from.bytes }
-{
-    if file.len() > MOST_BYTES {
-        return false;
-    }
-    let size = coder.word_width().bytes();
-    let mut memory = 0;
-    let mut end = at.bits();
-    let mut to = from.bytes();
-    for i in 0..count {
-        match take_word(coder, (memory, ()), file, BitPlace::new(end)) {
-            Err(_) => return false,
-            Ok(word) => {
-                if !put_raw_word(out, BytePlace::new(to), word.word, size) {
-                    return false;
-                }
-                memory = word.next.0;
-                end += word.len as usize;
-                to += size as usize;
-            }
+    to: BytePlace,
+}
+
+impl Work for Spreading<'_> {
+    type Answer = bool;
+
+    ghost Does = { λ s w C b r d. (r, d) ≡ coder_spread C ((w + 7) / 8) s.file.now s.at.bits s.count b s.to.bytes };
+
+    // Up to the first word that is not read or has no room.
+    fn run<C: PileCoder>(self, coder: &C, out: &mut [u8]) -> bool {
+        if self.file.len() > MOST_BYTES {
+            return false;
         }
-    }
-    true
-}
-
-// With the delta on or off for all words.
-fn spread_flagged<A: Coder<Memory = ()> + Copy>(
-    inner: &A,
-    on: bool,
-    by: u32,
-    file: &[u8],
-    at: BitPlace,
-    count: u32,
-    out: &mut [u8],
-    from: BytePlace,
-) -> bool
-    ensures { (result, out.new) ≡ coder_spread (turn (A.Coder.wide inner.now) (by % A.Coder.wide inner.now) (delta_if (A.Coder.wide inner.now) on (A.Coder.coding inner.now))) ((A.Coder.wide inner.now + 7) / 8) file.now at.bits count out.old from.bytes }
-{
-    if on {
-        let inner = Delta { inner: *inner };
-        return spread_coder(&Turn { inner, by }, file, at, count, out, from);
-    }
-    let inner = Beside { inner: *inner };
-    spread_coder(&Turn { inner, by }, file, at, count, out, from)
-}
-
-// By the algorithm of all words.
-fn spread_pile<const W: u32>(
-    pile: &Pile<W>,
-    file: &[u8],
-    at: BitPlace,
-    count: u32,
-    out: &mut [u8],
-    from: BytePlace,
-) -> bool
-    ensures { (result, out.new) ≡ coder_spread (pile_coding W pile.now) ((W + 7) / 8) file.now at.bits count out.old from.bytes }
-{
-    let on = pile.inner.on;
-    let by = pile.by;
-    match &pile.inner.delta.inner {
-        Algorithm::Null(c) => spread_flagged(c, on, by, file, at, count, out, from),
-        Algorithm::Constant(c) => spread_flagged(c, on, by, file, at, count, out, from),
-        Algorithm::Reduced(c) => spread_flagged(c, on, by, file, at, count, out, from),
+        let size = coder.width().bytes();
+        let mut memory = 0;
+        let mut cursor = Cursor {
+            at: self.at,
+            last: self.at,
+        };
+        let mut to = self.to.bytes();
+        for i in 0..self.count {
+            let Ok(word) = coder.take_from(memory, self.file, cursor.at) else {
+                return false;
+            };
+            if !put_raw_word(out, BytePlace::new(to), word.word, size) {
+                return false;
+            }
+            memory = word.next;
+            cursor = cursor.past(word.len);
+            to += size as usize;
+        }
+        true
     }
 }
 
-// The words of one channel.
-fn spread_channel(
-    coder: &ChannelCoder,
-    file: &[u8],
-    at: BitPlace,
-    count: u32,
-    out: &mut [u8],
-    from: BytePlace,
-) -> bool
-    ensures { (result, out.new) ≡ coder_spread (coder_coding coder.now) (coder_width coder.now / 8) file.now at.bits count out.old from.bytes }
-{
-    match coder {
-        ChannelCoder::Byte(pile) => spread_pile(pile, file, at, count, out, from),
-        ChannelCoder::Half(pile) => spread_pile(pile, file, at, count, out, from),
-        ChannelCoder::Full(pile) => spread_pile(pile, file, at, count, out, from),
-    }
-}
-
-// The words of a table's rows in turn.
+// The words of rows in turn.
 fn spread_rows(
     file: &[u8],
     at: BitPlace,
-    table: &[Channel],
+    rows: Rows,
     count: u32,
     out: &mut [u8],
-    from: BytePlace,
+    to: BytePlace,
 ) -> bool
-    requires rows { countable (settings table.now) ≡ true }
-    requires few { length file.now ≤ 16777216 }
-    ensures { (result, out.new) ≡ turn_spread (settings table.now) file.now count (first_turn (settings table.now)) at.bits out.old from.bytes }
+    requires { length file.now ≤ 16777216 }
+    ensures { (result, out.new) ≡ turn_spread (settings rows.entry.table.now) file.now count (first_turn (settings rows.entry.table.now)) at.bits out.old to.bytes }
 {
     let mut turn = first_turn();
-    let mut end = at.bits();
-    let mut to = from.bytes();
+    let mut cursor = Cursor { at, last: at };
+    let mut behind = to.bytes();
     for i in 0..count {
-        let size = table[turn.channel].word_bytes();
-        match take_next(&mut turn, table, file, BitPlace::new(end)) {
-            Err(_) => return false,
-            Ok(word) => {
-                if !put_raw_word(out, BytePlace::new(to), word.word, size) {
-                    return false;
-                }
-                end += word.len as usize;
-                to += size as usize;
-            }
+        let size = rows.table[turn.channel].word_bytes();
+        let Ok(word) = take_next(&mut turn, rows, file, cursor.at) else {
+            return false;
+        };
+        if !put_raw_word(out, BytePlace::new(behind), word.word, size) {
+            return false;
         }
+        cursor = cursor.past(word.len);
+        behind += size as usize;
     }
     true
 }
@@ -163,14 +98,23 @@ pub fn spread_words(
     ensures bytes { out.new ≡ spread_bytes (settings table.now) file.now at.bits count out.old from.bytes }
 {
     are_bytes(out);
-    if !is_countable(table) || file.len() > MOST_BYTES {
+    let Some(rows) = Rows::of(table) else {
+        return false;
+    };
+    if file.len() > MOST_BYTES {
         return false;
     }
     if table.len() > 1 {
-        return spread_rows(file, at, table, count, out, from);
+        return spread_rows(file, at, rows, count, out, from);
     }
-    match table[0].coder() {
-        Some(coder) => spread_channel(&coder, file, at, count, out, from),
-        None => false,
-    }
+    let Some(coder) = table[0].coder() else {
+        return false;
+    };
+    let work = Spreading {
+        file,
+        at,
+        count,
+        to: from,
+    };
+    coder.run(work, out)
 }

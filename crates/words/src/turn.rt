@@ -1,7 +1,6 @@
 // Whose word is next.
 
-// The most channels of a section.
-pub(crate) const MOST_CHANNELS: usize = 32;
+use limits::MOST_CHANNELS;
 
 // Each channel gives its repeats in turn and has a memory of its own.
 #[derive(Clone, Copy)]

@@ -9,6 +9,7 @@ use Rattle.words.proofs.pass.pass_rows.Given as goal
 -- what is left to read gives the rest of the answer
 abbrev pub invariant-loop-i : goal.invariant-loop-i
 invariant-loop-i l =
-    let cs = settings l.table in
-    (places (turn_read cs (l.count - l.i) (turn_of (length l.table) l.turn) (bits_of l.file) l.end l.tried) ≡ places (turn_read cs l.count (first_turn cs) (bits_of l.file) l.initial.end l.initial.tried))
-    × Running (length l.table) l.turn
+    let cs = settings l.rows.table.now in
+    let f = bits_of l.file in
+    (places (turn_read cs (l.count - l.i) (turn_of (length l.rows.table.now) l.turn) f l.cursor.at.bits l.cursor.last.bits) ≡ places (turn_read cs l.count (first_turn cs) f l.initial.cursor.at.bits l.initial.cursor.last.bits))
+    × Running (length l.rows.table.now) l.turn

@@ -22,32 +22,16 @@ const ROOM: usize = 24;
 // Words of 16 bits: 1000, 1001, 1062, 65535, 1008 and 1000.
 const NOISE: [u8; 12] = [232, 3, 233, 3, 38, 4, 255, 255, 240, 3, 232, 3];
 
-// The coder that the settings make; without one the test fails.
-macro_rules! made {
-    ($coder:expr) => {
-        match $coder {
-            Some(coder) => coder,
-            None => return Err(Fail::new("no coder")),
-        }
-    };
-}
-
 // A fault's number, and 0 where there is none.
 #[cfg(test)]
 fn number(answer: Result<usize, Fault>) -> u32 {
-    match answer {
-        Ok(_) => 0,
-        Err(fault) => fault.number(),
-    }
+    answer.err().map_or(0, |fault| fault.number())
 }
 
 // Where a fault is, and `usize::MAX` where there is none.
 #[cfg(test)]
 fn place(answer: Result<usize, Fault>) -> usize {
-    match answer {
-        Ok(_) => usize::MAX,
-        Err(fault) => fault.place.bits(),
-    }
+    answer.err().map_or(usize::MAX, |fault| fault.place.bits())
 }
 
 // How many bytes some bits take.
@@ -75,7 +59,7 @@ fn there_and_back<C: Coder>(rt: &impl Abort, coder: &C, raw: &[u8], count: usize
 
 #[test]
 fn the_worked_case(rt: HostRuntime) -> Result<(), Fail> {
-    let coder = made!(Reduced::<8>::new(3, 10));
+    let coder = Reduced::<8>::new(3, 10).ok_or(())?;
     let mut block = [BEFORE; 3];
     assert_eq!(rt; pack(&coder, &[16, 17], &mut block).ok(), Some(14));
     assert_eq!(rt; block, [0x7e, 0x04, BEFORE]);
@@ -88,14 +72,14 @@ fn the_worked_case(rt: HostRuntime) -> Result<(), Fail> {
 
 #[test]
 fn reduced_words(rt: HostRuntime) -> Result<(), Fail> {
-    let inner = made!(Reduced::<16>::new(6, 1000));
+    let inner = Reduced::<16>::new(6, 1000).ok_or(())?;
     there_and_back(&rt, &inner, &NOISE, 6, 52);
     Ok(())
 }
 
 #[test]
 fn differences(rt: HostRuntime) -> Result<(), Fail> {
-    let inner = made!(Reduced::<16>::new(6, 65505));
+    let inner = Reduced::<16>::new(6, 65505).ok_or(())?;
     there_and_back(&rt, &Delta { inner }, &NOISE, 6, 100);
     Ok(())
 }
@@ -103,14 +87,9 @@ fn differences(rt: HostRuntime) -> Result<(), Fail> {
 // A channel whose converter puts its 12 bits at the top of a word.
 #[test]
 fn a_channel(rt: HostRuntime) -> Result<(), Fail> {
-    let reduced = made!(Reduced::<16>::new(6, 65505));
+    let reduced = Reduced::<16>::new(6, 65505).ok_or(())?;
     let pile: Pile<16> = Turn {
-        inner: FlaggedDelta {
-            delta: Delta {
-                inner: Algorithm::Reduced(reduced),
-            },
-            on: true,
-        },
+        inner: FlaggedDelta::new(Algorithm::Reduced(reduced), true),
         by: 4,
     };
     let raw = [128, 62, 144, 62, 208, 62, 255, 255, 0, 63, 128, 62];
@@ -120,18 +99,18 @@ fn a_channel(rt: HostRuntime) -> Result<(), Fail> {
 
 #[test]
 fn whole_words(rt: HostRuntime) -> Result<(), Fail> {
-    let eight = made!(Null::<8>::new());
+    let eight = Null::<8>::new().ok_or(())?;
     there_and_back(&rt, &eight, &[0, 1, 255], 3, 24);
-    let twenty = made!(Null::<20>::new());
+    let twenty = Null::<20>::new().ok_or(())?;
     there_and_back(&rt, &twenty, &[0x45, 0x23, 0x01, 0xff, 0xff, 0x0f], 2, 40);
-    let sevens = made!(Constant::<8>::new(7));
+    let sevens = Constant::<8>::new(7).ok_or(())?;
     there_and_back(&rt, &sevens, &[7, 7, 7], 3, 0);
     Ok(())
 }
 
 #[test]
 fn no_words(rt: HostRuntime) -> Result<(), Fail> {
-    let coder = made!(Reduced::<8>::new(3, 10));
+    let coder = Reduced::<8>::new(3, 10).ok_or(())?;
     assert_eq!(rt; pack(&coder, &[], &mut []).ok(), Some(0));
     let mut out = [BEFORE; 2];
     assert_eq!(rt; pack(&coder, &[], &mut out).ok(), Some(0));
@@ -143,9 +122,9 @@ fn no_words(rt: HostRuntime) -> Result<(), Fail> {
 
 #[test]
 fn packing_refused(rt: HostRuntime) -> Result<(), Fail> {
-    let coder = made!(Reduced::<16>::new(6, 1000));
-    let twelve = made!(Null::<12>::new());
-    let sevens = made!(Constant::<8>::new(7));
+    let coder = Reduced::<16>::new(6, 1000).ok_or(())?;
+    let twelve = Null::<12>::new().ok_or(())?;
+    let sevens = Constant::<8>::new(7).ok_or(())?;
     let mut out = [BEFORE; 2];
     assert_eq!(rt; number(pack(&coder, &[1, 2, 3], &mut out)), 13);
     assert_eq!(rt; number(pack(&sevens, &[7; 65537], &mut out)), 9);
@@ -161,7 +140,7 @@ fn packing_refused(rt: HostRuntime) -> Result<(), Fail> {
 
 #[test]
 fn reading_refused(rt: HostRuntime) -> Result<(), Fail> {
-    let coder = made!(Reduced::<8>::new(3, 10));
+    let coder = Reduced::<8>::new(3, 10).ok_or(())?;
     let mut out = [BEFORE; 2];
     assert_eq!(rt; number(read(&coder, &[], 65537, &mut out)), 9);
     assert_eq!(rt; number(read(&coder, &[], 3, &mut out)), 2);
@@ -228,8 +207,8 @@ fn damage<C: Coder>(rt: &impl Abort, coder: &C, raw: [u8; 12], bits: usize) {
 
 #[test]
 fn damaged_blocks(rt: HostRuntime) -> Result<(), Fail> {
-    let plain = made!(Reduced::<8>::new(3, 10));
-    let inner = made!(Reduced::<8>::new(3, 253));
+    let plain = Reduced::<8>::new(3, 10).ok_or(())?;
+    let inner = Reduced::<8>::new(3, 253).ok_or(())?;
     let raw = [16, 17, 10, 12, 15, 200, 11, 10, 14, 13, 16, 9];
     damage(&rt, &plain, raw, 60);
     damage(&rt, &Delta { inner }, raw, 84);

@@ -3,7 +3,7 @@
 
 use coder::coder::Coder;
 use coder::delta::Delta;
-use coder::form::Decoded;
+use coder::form::Unread;
 use coder::steps::{put_word, take_word};
 use coder::turn::Turn;
 use coders::flagged::FlaggedDelta;
@@ -33,10 +33,9 @@ fn width_told<C: Coder>(coder: &C) -> bool {
 // The number and the place of a fault.
 #[cfg(test)]
 fn refused<T: Drop>(answer: Result<T, Fault>) -> Option<(u32, usize)> {
-    match answer {
-        Ok(_) => None,
-        Err(fault) => Some((fault.number(), fault.place.bits())),
-    }
+    answer
+        .err()
+        .map(|fault| (fault.number(), fault.place.bits()))
 }
 
 // Words one after the other from within a byte on, in so many bits, and read back. The bits beside them stay.
@@ -84,7 +83,7 @@ fn reduced_forms(rt: HostRuntime) -> Result<(), Fail> {
         bits: 12 << 3 | 7,
         len: 11,
     };
-    assert!(rt; matches!(ten.decode((), window), Decoded::Dead { len: 11 }));
+    assert!(rt; matches!(ten.decode((), window), Err(Unread::Dead { len: 11 })));
     let high = Reduced::<8>::new(3, 254).ok_or(())?;
     assert_eq!(rt; form(&high, (), 4), Some((6, 3)));
     assert_eq!(rt; form(&high, (), 5), Some((5 << 3 | 7, 11)));
@@ -105,11 +104,9 @@ fn settings_outside_the_rules(rt: HostRuntime) {
 #[test]
 fn widths_told(rt: HostRuntime) -> Result<(), Fail> {
     let null = Null::<8>::new().ok_or(())?;
-    let flagged = FlaggedDelta {
-        delta: Delta { inner: null },
-        on: true,
-    };
-    assert!(rt; width_told(&null) && width_told(&flagged.delta) && width_told(&flagged));
+    let delta = Delta { inner: null };
+    let flagged = FlaggedDelta::new(null, true);
+    assert!(rt; width_told(&null) && width_told(&delta) && width_told(&flagged));
     assert!(rt; width_told(&Turn { inner: null, by: 1 }));
     assert!(rt; width_told(&Algorithm::Null(null)));
     assert!(rt; width_told(&Constant::<8>::new(1).ok_or(())?));
@@ -144,12 +141,7 @@ fn words_come_back(rt: HostRuntime) -> Result<(), Fail> {
         78,
     )?;
     let pile: Pile<16> = Turn {
-        inner: FlaggedDelta {
-            delta: Delta {
-                inner: Algorithm::Reduced(reduced),
-            },
-            on: true,
-        },
+        inner: FlaggedDelta::new(Algorithm::Reduced(reduced), true),
         by: 3,
     };
     come_back(&rt, &pile, &[8, 16, 0, 65535, 7, 7, 8], &mut [0xff; 32], 67)

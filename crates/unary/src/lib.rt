@@ -141,10 +141,9 @@ mod tests {
 
     // The number and the place of a fault.
     fn refused<T: Drop>(answer: Result<T, Fault>) -> Option<(u32, usize)> {
-        match answer {
-            Ok(_) => None,
-            Err(fault) => Some((fault.number(), fault.place.bits())),
-        }
+        answer
+            .err()
+            .map(|fault| (fault.number(), fault.place.bits()))
     }
 
     #[test]

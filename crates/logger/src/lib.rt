@@ -3,14 +3,12 @@
 
 ghost use Rattle.std.specs.Prelude.{◌≡◌, ℕ, ◌≤◌, length, IfOk};
 ghost use Rattle.faults.specs.Faults.{answered};
-ghost use Rattle.blocks.specs.Blocks.{bytes_per, pack_answer, pack_bytes, read_answer, read_bytes};
 ghost use Rattle.logger.specs.Host.{hosted, pack_host, pack_host_bytes, read_host, read_host_bytes};
 
 use blocks::block::{pack, read};
-use coder::coder::Coder;
 use coder::delta::Delta;
 use coders::kinds::Reduced;
-use faults::kind::Fault;
+use faults::kind::{Fault, Kind};
 
 // A count as it is, and a fault as its number negated.
 fn host_answer(res: Result<usize, Fault>) -> i64
@@ -23,18 +21,45 @@ fn host_answer(res: Result<usize, Fault>) -> i64
     }
 }
 
-fn pack_with<C: Coder>(coder: &C, raw: &[u8], out: &mut [u8]) -> i64
-    ensures answer { result ≡ hosted (pack_answer (bytes_per (C.Coder.wide coder.now)) (C.Coder.coding coder.now) raw.now (length out.old)) }
-    ensures bytes { out.new ≡ pack_bytes (bytes_per (C.Coder.wide coder.now)) (C.Coder.coding coder.now) raw.now out.old }
+// Packs with the channel that the settings name.
+fn pack_channel(
+    delta: u32,
+    narrow: u32,
+    pedestal: u32,
+    raw: &[u8],
+    out: &mut [u8],
+) -> Result<usize, Fault>
+    ensures answer { answered (λ n. n) result ≡ pack_host delta narrow pedestal raw.now (length out.old) }
+    ensures bytes { out.new ≡ pack_host_bytes delta narrow pedestal raw.now out.old }
+    ensures most { IfOk result (λ n. n ≤ 4194304) }
 {
-    host_answer(pack(coder, raw, out))
+    let inner = Reduced::<16>::new(narrow, pedestal).ok_or(Kind::BadSetting.at_start())?;
+    match delta {
+        0 => pack(&inner, raw, out),
+        1 => pack(&Delta { inner }, raw, out),
+        _ => Err(Kind::BadSetting.at_start()),
+    }
 }
 
-fn read_with<C: Coder>(coder: &C, block: &[u8], count: usize, out: &mut [u8]) -> i64
-    ensures answer { result ≡ hosted (read_answer (bytes_per (C.Coder.wide coder.now)) (C.Coder.coding coder.now) block.now count (length out.old)) }
-    ensures bytes { out.new ≡ read_bytes (bytes_per (C.Coder.wide coder.now)) (C.Coder.coding coder.now) block.now count out.old }
+// Reads with the channel that the settings name.
+fn read_channel(
+    delta: u32,
+    narrow: u32,
+    pedestal: u32,
+    block: &[u8],
+    count: usize,
+    out: &mut [u8],
+) -> Result<usize, Fault>
+    ensures answer { answered (λ n. n) result ≡ read_host delta narrow pedestal block.now count (length out.old) }
+    ensures bytes { out.new ≡ read_host_bytes delta narrow pedestal block.now count out.old }
+    ensures most { IfOk result (λ n. n ≤ 65536) }
 {
-    host_answer(read(coder, block, count, out))
+    let inner = Reduced::<16>::new(narrow, pedestal).ok_or(Kind::BadSetting.at_start())?;
+    match delta {
+        0 => read(&inner, block, count, out),
+        1 => read(&Delta { inner }, block, count, out),
+        _ => Err(Kind::BadSetting.at_start()),
+    }
 }
 
 // Packs raw 16-bit words, low byte first, and answers the number of bits of the block.
@@ -43,14 +68,7 @@ pub fn slim_pack(delta: u32, narrow: u32, pedestal: u32, raw: &[u8], out: &mut [
     ensures answer { result ≡ hosted (pack_host delta narrow pedestal raw.now (length out.old)) }
     ensures bytes { out.new ≡ pack_host_bytes delta narrow pedestal raw.now out.old }
 {
-    let Some(inner) = Reduced::<16>::new(narrow, pedestal) else {
-        return -6;
-    };
-    match delta {
-        0 => pack_with(&inner, raw, out),
-        1 => pack_with(&Delta { inner }, raw, out),
-        _ => -6,
-    }
+    host_answer(pack_channel(delta, narrow, pedestal, raw, out))
 }
 
 // Reads so many 16-bit words from a block, writes them low byte first, and answers their number.
@@ -65,12 +83,5 @@ pub fn slim_read(
     ensures answer { result ≡ hosted (read_host delta narrow pedestal block.now count (length out.old)) }
     ensures bytes { out.new ≡ read_host_bytes delta narrow pedestal block.now count out.old }
 {
-    let Some(inner) = Reduced::<16>::new(narrow, pedestal) else {
-        return -6;
-    };
-    match delta {
-        0 => read_with(&inner, block, count, out),
-        1 => read_with(&Delta { inner }, block, count, out),
-        _ => -6,
-    }
+    host_answer(read_channel(delta, narrow, pedestal, block, count, out))
 }

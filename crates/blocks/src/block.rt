@@ -93,7 +93,7 @@ fn scan<C: Coder>(coder: &C, block: &[u8], count: usize) -> Result<BitPlace, Fau
 {
     let mut memory = coder.start();
     let mut at = BitPlace::new(0);
-    for i in 0..count {
+    for _ in 0..count {
         let taken = take_word(coder, memory, block, at)?;
         at = BitPlace::new(at.bits() + taken.len as usize);
         memory = taken.next;

@@ -33,7 +33,7 @@ impl Work for Passing<'_> {
         }
         let mut memory = 0;
         let mut cursor = self.from;
-        for i in 0..self.count {
+        for _ in 0..self.count {
             let word = coder.take_from(memory, self.file, cursor.at)?;
             memory = word.next;
             cursor = cursor.past(word.len);
@@ -91,7 +91,7 @@ fn pass_rows(file: &[u8], from: Cursor, rows: Rows, count: u32) -> Result<Cursor
 {
     let mut turn = first_turn();
     let mut cursor = from;
-    for i in 0..count {
+    for _ in 0..count {
         let word = take_next(&mut turn, rows, file, cursor.at)?;
         cursor = cursor.past(word.len);
     }

@@ -39,7 +39,7 @@ impl Work for Spreading<'_> {
             last: self.at,
         };
         let mut to = self.to.bytes();
-        for i in 0..self.count {
+        for _ in 0..self.count {
             let Ok(word) = coder.take_from(memory, self.file, cursor.at) else {
                 return false;
             };
@@ -69,7 +69,7 @@ fn spread_rows(
     let mut turn = first_turn();
     let mut cursor = Cursor { at, last: at };
     let mut behind = to.bytes();
-    for i in 0..count {
+    for _ in 0..count {
         let size = rows.table[turn.channel].word_bytes();
         let Ok(word) = take_next(&mut turn, rows, file, cursor.at) else {
             return false;

@@ -5,8 +5,8 @@ use Rattle.blocks.specs.Loops.{read_words, end_of}
 use Rattle.blocks.proofs.Folds.{read_more, read-not, read_none, taken-short}
 use Rattle.blocks.proofs.block.scan.Goals as goal
 
-pub loop-i-init : goal.loop-i-init
-loop-i-init g c =
+pub loop-init : goal.loop-init
+loop-init g c =
     let C = g.C.Coder.coding c.args.coder.now in
     let f = c.args.block.now in
     let n : ℕ = c.args.count in (
@@ -17,31 +17,31 @@ loop-i-init g c =
 pub returns-in_err-taken : goal.returns-in_err-taken
 returns-in_err-taken g c =
     let C = g.C.Coder.coding c.args.coder.now in
-    let i : ℕ = c.loop-i.i in
+    let i : ℕ = c.loop.counter in
     let n : ℕ = c.args.count in
     let f = c.in_err-taken.field-0.0 in
     let e : c.from_residual.result ≡ Err f = search rules in
     ap (answered (λ (p : BitPlace). p.bits)) e
-    ∙ sym (read-not C c.loop-i.memory c.args.block.now c.loop-i.at.bits (n - i) (n - (i + 1)) (number_of f.kind) f.place.bits (omega arith) c.in_err-taken.ensures)
-    ∙ c.loop-i.invariant.0
+    ∙ sym (read-not C c.loop.memory c.args.block.now c.loop.at.bits (n - i) (n - (i + 1)) (number_of f.kind) f.place.bits (omega arith) c.in_err-taken.ensures)
+    ∙ c.loop.invariant.0
 
-pub loop-i-preserved : goal.loop-i-preserved
-loop-i-preserved g c =
+pub loop-preserved : goal.loop-preserved
+loop-preserved g c =
     let C = g.C.Coder.coding c.args.coder.now in
     let f = c.args.block.now in
-    let i : ℕ = c.loop-i.i in
+    let i : ℕ = c.loop.counter in
     let n : ℕ = c.args.count in
     let t = c.in_ok-taken.taken in
-    let s : t.len ≤ 64 = taken-short C (g.C.Coder.sound c.args.coder.now) c.loop-i.memory f c.loop-i.at.bits t.word t.len t.next c.in_ok-taken.ensures in
-    let p : c.new-at-in-loop-i.result.bits ≡ c.loop-i.at.bits + t.len = omega (arith, c.new-at-in-loop-i.ensures, c.bits.ensures) in (
+    let s : t.len ≤ 64 = taken-short C (g.C.Coder.sound c.args.coder.now) c.loop.memory f c.loop.at.bits t.word t.len t.next c.in_ok-taken.ensures in
+    let p : c.new-at-in-loop.result.bits ≡ c.loop.at.bits + t.len = omega (arith, c.new-at-in-loop.ensures, c.bits.ensures) in (
       ap (λ z. end_of (read_words C t.next f z (n - (i + 1)))) p
-          ∙ sym (read_more C c.loop-i.memory f c.loop-i.at.bits (n - i) (n - (i + 1)) t.word t.len t.next (omega arith) c.in_ok-taken.ensures)
-          ∙ c.loop-i.invariant.0,
-      omega (arith, s, p, c.loop-i.invariant.1),
+          ∙ sym (read_more C c.loop.memory f c.loop.at.bits (n - i) (n - (i + 1)) t.word t.len t.next (omega arith) c.in_ok-taken.ensures)
+          ∙ c.loop.invariant.0,
+      omega (arith, s, p, c.loop.invariant.1),
     )
 
 pub returns : goal.returns
 returns g c =
     let C = g.C.Coder.coding c.args.coder.now in
-    let z : c.args.count - c.loop-i.i ≡ 0 = omega arith in
-    sym (ap end_of (read_none C c.loop-i.memory c.args.block.now c.loop-i.at.bits (c.args.count - c.loop-i.i) z)) ∙ c.loop-i.invariant.0
+    let z : c.args.count - c.loop.counter ≡ 0 = omega arith in
+    sym (ap end_of (read_none C c.loop.memory c.args.block.now c.loop.at.bits (c.args.count - c.loop.counter) z)) ∙ c.loop.invariant.0

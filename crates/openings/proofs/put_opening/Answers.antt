@@ -15,7 +15,7 @@ returns-then-not-rows_describable c =
     let g : Flags = c.args.flags in
     let t : List Channel = c.args.table.now in
     let at : ℕ = c.args.at.bytes in
-    let e = shut-rows g t c.repeats_recorded-recorded.result c.repeats_recorded-recorded.ensures (length f) at (sym c.rows_describable.ensures ∙ c.if-not-rows_describable.true) in
+    let e = shut-rows g t c.records_repeats-recorded.result c.records_repeats-recorded.ensures (length f) at (sym c.rows_describable.ensures ∙ c.if-not-rows_describable.true) in
     record { place = ap (λ z. cond {A = Option ℕ} z (Some (8 * at + length (opening g t))) None) (sym e); bytes = ap (λ z. cond z (put_bits f (8 * at) (opening g t)) f) (sym e) }
 
 pub overflow_add-front_len : goal.overflow_add-front_len
@@ -27,8 +27,8 @@ returns-then-bits-buffer c =
     let g : Flags = c.args.flags in
     let t : List Channel = c.args.table.now in
     let at : ℕ = c.args.at.bytes in
-    let kept = c.repeats_recorded-recorded.result in
-    let k = c.repeats_recorded-recorded.ensures in
+    let kept = c.records_repeats-recorded.result in
+    let k = c.records_repeats-recorded.ensures in
     let l = opening-length g t kept k c.front_len.result c.rows_len.result c.front_len.ensures.len c.rows_len.ensures.len in
     let e = shut-room g t kept k (length f) at (omega (arith, l, c.bits.ensures, c.plus-end.ensures, c.first_bit-start.ensures)) in
     record { place = ap (λ z. cond {A = Option ℕ} z (Some (8 * at + length (opening g t))) None) (sym e); bytes = ap (λ z. cond z (put_bits f (8 * at) (opening g t)) f) (sym e) }
@@ -57,8 +57,8 @@ returns c =
     let g : Flags = c.args.flags in
     let t : List Channel = c.args.table.now in
     let at : ℕ = c.args.at.bytes in
-    let kept = c.repeats_recorded-recorded.result in
-    let k = c.repeats_recorded-recorded.ensures in
+    let kept = c.records_repeats-recorded.result in
+    let k = c.records_repeats-recorded.ensures in
     let l = opening-length g t kept k c.front_len.result c.rows_len.result c.front_len.ensures.len c.rows_len.ensures.len in
     let s : c.first_bit-start.result.bits ≡ 8 * at = omega (arith, c.bits.ensures, c.plus-end.ensures, c.first_bit-start.ensures) in
     let fit : 8 * at + length (opening g t) ≤ 8 * length f = omega (arith, l, c.bits.ensures, c.plus-end.ensures, c.first_bit-start.ensures) in

@@ -25,6 +25,12 @@ const END: u64 = 15;
 // The tag of the end with leftovers; their number follows.
 const END_WITH_LEFTOVERS: u64 = 14;
 
+// The bits of a tag.
+const TAG_LEN: u32 = 4;
+
+// The bits of a tag and the number of leftovers.
+const COUNTED_LEN: u32 = 7;
+
 // How many bits lead from a place to a whole byte.
 fn gap_at(at: usize) -> u32
     ensures gap { result ≡ gap at }
@@ -42,10 +48,8 @@ fn put_padded(buffer: &mut [u8], at: usize, value: u64, count: u32) -> Option<By
     ensures bytes { buffer.new ≡ (if nat_le (at + length (padded_bits at value count)) (8 * length buffer.old) then put_bits buffer.old at (padded_bits at value count) else buffer.old) }
 {
     let whole = count + gap_at(at + count as usize);
-    if !put_field(buffer, BitPlace::new(at), value, whole) {
-        return None;
-    }
-    Some(BytePlace::new((at + whole as usize) / 8))
+    let end = BytePlace::new((at + whole as usize) / 8);
+    put_field(buffer, BitPlace::new(at), value, whole).then_some(end)
 }
 
 // Closes a section that another follows, and answers the byte behind.
@@ -58,7 +62,7 @@ pub fn put_more(buffer: &mut [u8], at: BitPlace) -> Option<BytePlace>
     if buffer.len() > MOST_BYTES || at > MOST_BITS {
         return None;
     }
-    put_padded(buffer, at, ANOTHER, 4)
+    put_padded(buffer, at, ANOTHER, TAG_LEN)
 }
 
 // Writes the tag, the number of leftovers and the leftovers.
@@ -71,7 +75,7 @@ fn put_leftovers(buffer: &mut [u8], at: usize, leftovers: &[u8]) -> Option<ByteP
     ensures bytes { buffer.new ≡ closing_bytes at (ended leftovers.now) buffer.old }
 {
     let count = 8 * leftovers.len() as u32;
-    let first = at + 7;
+    let first = at + COUNTED_LEN as usize;
     let end = first + count as usize;
     if end + gap_at(end) as usize > 8 * buffer.len() {
         return None;
@@ -81,7 +85,7 @@ fn put_leftovers(buffer: &mut [u8], at: usize, leftovers: &[u8]) -> Option<ByteP
         buffer,
         BitPlace::new(at),
         END_WITH_LEFTOVERS + 16 * leftovers.len() as u64,
-        7,
+        COUNTED_LEN,
     );
     put_padded(buffer, first, bytes, count)
 }
@@ -96,8 +100,8 @@ pub fn put_end(buffer: &mut [u8], at: BitPlace, leftovers: &[u8]) -> Option<Byte
     if buffer.len() > MOST_BYTES || at > MOST_BITS || leftovers.len() > MOST_LEFTOVERS {
         return None;
     }
-    if leftovers.len() == 0 {
-        return put_padded(buffer, at, END, 4);
+    if leftovers.is_empty() {
+        return put_padded(buffer, at, END, TAG_LEN);
     }
     put_leftovers(buffer, at, leftovers)
 }

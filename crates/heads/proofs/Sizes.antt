@@ -1,6 +1,7 @@
 -- The parts of a head, put one behind the other.
 use Rattle.std.proofs.Common.{◌≡◌, ℕ, ◌+◌, ◌*◌, ◌≤◌, Bool, true, false, cond, leb, List, [], ◌++◌, length, Some, None, Option, sym, refl, ap, ◌∙◌, append_assoc, append-nil, arith, length-append}
 use Rattle.std.proofs.lemmas.Bool.{and_parts, leb-true}
+use Rattle.std.specs.Option.{option_map_or}
 use Rattle.bits.specs.Bits.{bits, bits_of, put_bits}
 use Rattle.bits.proofs.Numbers.{length-bits}
 use Rattle.bits.proofs.Files.{length-bits_of}
@@ -35,9 +36,14 @@ extra-most o bs e h = leb-true (length bs) 65535 (ap extra_fits (sym e) ∙ h)
 pub extra-none : (o : Option (List ℕ)) → o ≡ None → extra_bits o ≡ []
 extra-none o e = ap extra_bits e ∙ no_extra
 
-pub size-worth : (t : Bool) → 8 * cond t 4 0 ≡ cond t 32 0
-size-worth true = refl
-size-worth false = refl
+-- whether or not they are given
+pub name-length : (o : Option (List ℕ)) → name_fits o ≡ true → length (name_bits o) ≡ 8 * option_map_or (λ bs. length bs + 1) o 0
+name-length None h = ap length no_name
+name-length (Some bs) h = name-size (Some bs) bs refl h
+
+pub extra-length : (o : Option (List ℕ)) → length (extra_bits o) ≡ 8 * option_map_or (λ bs. length bs + 2) o 0
+extra-length None = ap length no_extra
+extra-length (Some bs) = extra-size (Some bs) bs refl
 
 -- ## Bytes
 

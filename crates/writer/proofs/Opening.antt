@@ -6,7 +6,6 @@ use Rattle.std.proofs.lemmas.Bool.Decides.{nat_tests}
 use Rattle.bits.specs.Bits.{bits, put_bits}
 use Rattle.bits.proofs.Numbers.{length-bits}
 use Rattle.forms.proofs.Codes.{none-some}
-use Rattle.faults.specs.Faults.{number_of}
 use Rattle.layout.specs.Slim.{most_bytes, most_channels, recorded}
 use Rattle.channel.specs.declared.record.Channel.{Channel}
 use Rattle.channel.specs.Records.{settings_of, rested}
@@ -18,7 +17,8 @@ use Rattle.calls.specs.Parts.{open_bits, written, described}
 use Rattle.calls.specs.Calls.{Trouble, settings, start, wrong_count, describable, section, open_spot, open_result, open_bytes, open_table}
 use Rattle.openings.specs.Openings as openings
 use Rattle.openings.specs.Openings.{openable}
-use Rattle.writer.specs.declared.states.Denied.{Denied}
+use Rattle.writer.specs.declared.states.Between.{Between}
+use Rattle.writer.specs.declared.states.Refused.{Refused}
 use Rattle.writer.specs.Answers.{trouble, denied}
 
 -- the tests in a row
@@ -98,16 +98,16 @@ not_there true v e = absurd (none-some e)
 not_there false v e = refl
 
 -- a writer that comes back
-pub record CameBack (e : Edge) (b : List ℕ) (t : List Channel) (d : Denied) : Type 0 where
+pub record CameBack (e : Edge) (b : List ℕ) (t : List Channel) (d : Refused Between) : Type 0 where
   pub answer : Err (denied d) ≡ open_result e b t
   pub bytes : b ≡ open_bytes e b t
   pub table : t ≡ open_table e b t
 
-pub came_back : (e : Edge) (b : List ℕ) (t : List Channel) (d : Denied) (k p : ℕ) → calls.opening e b t ≡ Some (k, p) → d.writer.edge ≡ e → number_of d.fault.kind ≡ k → d.fault.place.bits ≡ p → CameBack e b t d
-came_back e b t d k p o i j l = record {
+pub came_back : (e : Edge) (b : List ℕ) (t : List Channel) (d : Refused Between) (f : Trouble) → calls.opening e b t ≡ Some f → d.writer.edge ≡ e → trouble d.fault ≡ f → CameBack e b t d
+came_back e b t d f o i j = record {
   answer =
       ap {B = Result Spot (Edge × Trouble)} (λ z. Err (z, trouble d.fault)) i
-      ∙ ap (λ z. Err (e, (z, d.fault.place.bits))) j ∙ ap (λ z. Err (e, (k, z))) l
+      ∙ ap (λ z. Err (e, z)) j
       ∙ sym (ap (λ o. calls.answer o (open_spot e (section e t) (length t)) (λ f. (e, f))) o);
   bytes = sym (ap (λ o. calls.unless o b (put_bits b (start e) (section e t))) o);
   table = sym (ap (λ o. calls.unless o t (map rested t)) o);

@@ -1,13 +1,23 @@
 -- What filling a section leaves, behind its opening.
-use Rattle.std.specs.Prelude.{ℕ, Bool, cond, List, Result}
+use Rattle.std.specs.Prelude.{◌≡◌, ℕ, Bool, true, cond, List, length, Result}
 use Rattle.bits.specs.Bits.{cleared_from}
 use Rattle.channel.specs.declared.record.Channel.{Channel}
 use Rattle.state.specs.declared.Spot.{Spot}
-use Rattle.calls.specs.Calls.{Trouble, Putting, answer, unless, settings, puts, words_of, later_fault}
+use Rattle.calls.specs.Calls.{Trouble, Putting, answer, unless, settings, describable, puts, words_of, later_fault}
 
 -- what a guard leaves at its end: zeros from a place on, unless the work was complete
 abbrev pub guarded : Bool → List ℕ → ℕ → List ℕ
 guarded complete b at = cond complete b (cleared_from b at)
+
+-- a writer that has just opened: no word is put yet, buffer and table are as long as it knows them, and the rows can be described
+pub record Opened (s : Spot) (b : List ℕ) (t : List Channel) : Type 0 where
+  pub channel : s.channel ≡ 0
+  pub given : s.given ≡ 0
+  pub raw : s.raw ≡ 0
+  pub len : length b ≡ s.edge.len
+  pub rows : length t ≡ s.rows
+  pub kept : Bool
+  pub rules : describable kept (settings t) ≡ true
 
 -- all words of raw bytes, put by a writer that has just opened
 abbrev pub poured : Spot → List ℕ → List Channel → List ℕ → Putting

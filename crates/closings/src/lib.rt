@@ -1,12 +1,11 @@
 // What closes a section: a tag, leftovers behind the last, and zeros up to a whole byte.
 #![tactic(auto)]
 
-ghost use Rattle.std.specs.Prelude.{◌≡◌, ℕ, ◌+◌, ◌*◌, ◌/◌, ◌^◌, ◌<◌, ◌≤◌, length, if◌then◌else◌, Some, None, nat_le};
+ghost use Rattle.std.specs.Prelude.{◌≡◌, ◌^◌, ◌<◌, ◌≤◌, length};
 ghost use Rattle.std.specs.Option.{option_map};
-ghost use Rattle.bits.specs.Bits.{put_bits};
 ghost use Rattle.format.specs.Format.{gap};
-ghost use Rattle.layout.specs.Slim.{Closing, another, ended};
-ghost use Rattle.closings.specs.Closings.{padded_bits, closing_end, closing_bytes};
+ghost use Rattle.layout.specs.Slim.{another, ended};
+ghost use Rattle.closings.specs.Closings.{padded_end, padded_bytes, closing_end, closing_bytes};
 
 use fields::bytes::are_bytes;
 use fields::field::{put_field, take_field};
@@ -44,8 +43,8 @@ fn put_padded(buffer: &mut [u8], at: usize, value: u64, count: u32) -> Option<By
     requires few { count ≤ 56 }
     requires small { value < 2 ^ count }
     requires near { at ≤ 134217735 }
-    ensures place { option_map (λ (p : BytePlace). p.bytes) result ≡ (if nat_le (at + length (padded_bits at value count)) (8 * length buffer.old) then Some ((at + length (padded_bits at value count)) / 8) else None) }
-    ensures bytes { buffer.new ≡ (if nat_le (at + length (padded_bits at value count)) (8 * length buffer.old) then put_bits buffer.old at (padded_bits at value count) else buffer.old) }
+    ensures place { option_map (λ (p : BytePlace). p.bytes) result ≡ padded_end at value count (length buffer.old) }
+    ensures bytes { buffer.new ≡ padded_bytes at value count buffer.old }
 {
     let whole = count + gap_at(at + count as usize);
     let end = BytePlace::new((at + whole as usize) / 8);

@@ -1,7 +1,7 @@
 // The head of a file: the bytes 53 4c, the stamp, the flags, and what is flagged.
 #![tactic(auto)]
 
-ghost use Rattle.std.specs.Prelude.{◌≡◌, ℕ, ◌+◌, ◌*◌, ◌≤◌, true, length, option_copied, if◌then◌else◌};
+ghost use Rattle.std.specs.Prelude.{◌≡◌, ◌+◌, ◌*◌, ◌≤◌, true, length, option_copied, if◌then◌else◌};
 ghost use Rattle.std.specs.Option.{option_map};
 ghost use Rattle.bits.specs.Bits.{bits_of, put_bits};
 ghost use Rattle.calls.specs.Parts.{name_bits, extra_bits};

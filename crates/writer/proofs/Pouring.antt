@@ -22,7 +22,7 @@ use Rattle.state.specs.declared.Edge.{Edge}
 use Rattle.state.specs.declared.Spot.{Spot}
 use Rattle.calls.specs.Calls.{Trouble, answer, unless, settings, describable, no_row, next_row, coded, row_bytes, form_in, memory_of, moved_on, putting, put_result, put_spot, put_bytes, put_table, raw_words, words_of, cut_short, Putting, longer, puts}
 use Rattle.calls.proofs.Keeping.{put_fits}
-use Rattle.writer.specs.Filling.{Opened, poured, poured_result}
+use Rattle.writer.specs.Filling.{Opened, Pours, poured, poured_result}
 use Rattle.writer.proofs.Putting.{moved}
 
 -- ## The words of raw bytes
@@ -196,18 +196,12 @@ starts s b t raw o =
     none-longer p = ap (λ z. record { fault = p.fault; sum = z; spot = p.spot; bytes = p.bytes; table = p.table }) (omega arith)
 
 -- what the call leaves
-pub record Left (s0 : Spot) (b0 : List ℕ) (t0 : List Channel) (raw : List ℕ) (r : Result ℕ Trouble) (s : Spot) (b : List ℕ) (t : List Channel) : Type 0 where
-  pub answer : r ≡ poured_result (poured s0 b0 t0 raw) (cut_short (settings t0) raw)
-  pub state : s ≡ (poured s0 b0 t0 raw).spot
-  pub bytes : b ≡ (poured s0 b0 t0 raw).bytes
-  pub table : t ≡ (poured s0 b0 t0 raw).table
-
-left_by : (s0 : Spot) (b0 : List ℕ) (t0 : List Channel) (raw : List ℕ) (p : Putting) (cut : Bool) (r : Result ℕ Trouble) → poured s0 b0 t0 raw ≡ p → cut_short (settings t0) raw ≡ cut → r ≡ poured_result p cut → Left s0 b0 t0 raw r p.spot p.bytes p.table
+left_by : (s0 : Spot) (b0 : List ℕ) (t0 : List Channel) (raw : List ℕ) (p : Putting) (cut : Bool) (r : Result ℕ Trouble) → poured s0 b0 t0 raw ≡ p → cut_short (settings t0) raw ≡ cut → r ≡ poured_result p cut → Pours s0 b0 t0 raw r p.spot p.bytes p.table
 left_by s0 b0 t0 raw p cut r e c h = record {
   answer = h ∙ sym (ap (λ y. poured_result y (cut_short (settings t0) raw)) e ∙ ap (poured_result p) c);
   state = sym (ap (λ (y : Putting). y.spot) e);
-  bytes = sym (ap (λ (y : Putting). y.bytes) e);
-  table = sym (ap (λ (y : Putting). y.table) e);
+  left = sym (ap (λ (y : Putting). y.bytes) e);
+  rows = sym (ap (λ (y : Putting). y.table) e);
 }
 
 module _ (s0 : Spot) (b0 : List ℕ) (t0 : List Channel) (raw : List ℕ) (O : Opened s0 b0 t0) (s : Spot) (b : List ℕ) (t : List Channel) (rest : List ℕ) (bits : ℕ) (G : Going s0 b0 t0 raw s b t rest bits)
@@ -298,14 +292,14 @@ module _ (s0 : Spot) (b0 : List ℕ) (t0 : List Channel) (raw : List ℕ) (O : O
       )
 
   -- all words are put
-  pub all-put : length rest ≡ 0 → Left s0 b0 t0 raw (Ok bits) s b t
+  pub all-put : length rest ≡ 0 → Pours s0 b0 t0 raw (Ok bits) s b t
   all-put h =
       let (p, q) = ends (words-none (settings t0) (turn_at s) G.far rest (omega (arith, size-some))) in
       let x = eq-eqb (raw_bytes (settings t0) turns.first (length (words_of (settings t0) raw))) (length raw) (omega arith) in
       left_by s0 b0 t0 raw (record { fault = None; sum = bits; spot = s; bytes = b; table = t }) false (Ok bits) p (ap not x) refl
 
   -- bytes are left that are no whole word
-  pub cut_off : (at size : ℕ) → at ≡ 0 → size ≡ row_bytes (next_row s t) → size ≤ 4 → 0 < length rest → None ≡ cond (is_raw at size (length rest)) (Some (field_at rest (8 * at) (8 * size))) None → Left s0 b0 t0 raw (Err (13, s.at.bits)) s b t
+  pub cut_off : (at size : ℕ) → at ≡ 0 → size ≡ row_bytes (next_row s t) → size ≤ 4 → 0 < length rest → None ≡ cond (is_raw at size (length rest)) (Some (field_at rest (8 * at) (8 * size))) None → Pours s0 b0 t0 raw (Err (13, s.at.bits)) s b t
   cut_off at size y e m h n =
       let (p, q) = ends (no_word at size y e m n) in
       let x = ne_eqb (raw_bytes (settings t0) turns.first (length (words_of (settings t0) raw))) (length raw) (λ i. omega arith) in
@@ -313,7 +307,7 @@ module _ (s0 : Spot) (b0 : List ℕ) (t0 : List Channel) (raw : List ℕ) (O : O
 
   -- a word was refused
   pub stuck : (at size w : ℕ) (f : Trouble) (u : Spot) (d : List ℕ) (v : List Channel) → at ≡ 0 → size ≡ row_bytes (next_row s t) → Some w ≡ cond (is_raw at size (length rest)) (Some (field_at rest (8 * at) (8 * size))) None →
-      Err f ≡ put_result s b t w → u ≡ put_spot s b t w → d ≡ put_bytes s b t w → v ≡ put_table s b t w → Left s0 b0 t0 raw (Err f) u d v
+      Err f ≡ put_result s b t w → u ≡ put_spot s b t w → d ≡ put_bytes s b t w → v ≡ put_table s b t w → Pours s0 b0 t0 raw (Err f) u d v
   stuck at size w f u d v y z x a is ib it =
       let g : List Bool = form_in (coded (next_row s t) w) in
       let o = refused (putting s b t w) f (length g) a in
@@ -324,4 +318,4 @@ module _ (s0 : Spot) (b0 : List ℕ) (t0 : List Channel) (raw : List ℕ) (O : O
       let p : poured s0 b0 t0 raw ≡ record { fault = Some f; sum = bits + 0; spot = s; bytes = b; table = t } =
       sym G.words ∙ ap (λ y. longer bits (puts s b t y)) ws ∙ ap (longer bits) (puts-stuck s b t w (raw_words (settings t0) (advance (settings t0) (turn_at s)) (G.far - 1) (drop size rest)) f o) in
       let L = left_by s0 b0 t0 raw (record { fault = Some f; sum = bits + 0; spot = s; bytes = b; table = t }) (cut_short (settings t0) raw) (Err f) p refl refl in
-      record { answer = L.answer; state = S ∙ L.state; bytes = B ∙ L.bytes; table = T ∙ L.table }
+      record { answer = L.answer; state = S ∙ L.state; left = B ∙ L.left; rows = T ∙ L.rows }

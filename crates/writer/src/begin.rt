@@ -1,7 +1,7 @@
 // Beginning a file.
 ghost use Rattle.std.specs.Prelude.{◌≡◌, None, option_copied};
 ghost use Rattle.calls.specs.Calls.{begin_result, begin_bytes};
-ghost use Rattle.writer.specs.Answers.{trouble, begun};
+ghost use Rattle.writer.specs.Answers.{begun};
 
 use crate::states::Between;
 use faults::kind::{Fault, Kind};

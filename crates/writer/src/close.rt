@@ -1,5 +1,5 @@
 // Closing a section, and ending a file.
-ghost use Rattle.std.specs.Prelude.{◌≡◌, ℕ, ◌+◌, ◌*◌, ◌≤◌, length, if◌then◌else◌};
+ghost use Rattle.std.specs.Prelude.{◌≡◌, ◌+◌, ◌*◌, ◌≤◌, length, if◌then◌else◌};
 ghost use Rattle.calls.specs.Calls.{fields_filled, size_filled, more_result, more_bytes, last_result, last_bytes};
 ghost use Rattle.calls.specs.Runs.{EndsRecorded};
 ghost use Rattle.writer.specs.Answers.{closed, ended};

@@ -1,5 +1,5 @@
 // Filling a section from raw bytes.
-ghost use Rattle.std.specs.Prelude.{◌≡◌, ℕ, ◌+◌, ◌*◌, ◌≤◌};
+ghost use Rattle.std.specs.Prelude.{◌≡◌};
 ghost use Rattle.calls.specs.Calls.{start, settings, cut_short, fill_result, fill_bytes, fill_table};
 ghost use Rattle.writer.specs.Answers.{put, filled};
 ghost use Rattle.writer.specs.Filling.{Opened, poured, poured_result, poured_bytes};

@@ -1,8 +1,6 @@
 // All words of raw bytes, put into a section that has just been opened.
-ghost use Rattle.std.specs.Prelude.{◌≡◌};
-ghost use Rattle.calls.specs.Calls.{settings, cut_short};
 ghost use Rattle.writer.specs.Answers.{put};
-ghost use Rattle.writer.specs.Filling.{Opened, poured, poured_result};
+ghost use Rattle.writer.specs.Filling.{Opened, Pours};
 
 use crate::states::Inside;
 use channel::record::Channel;
@@ -19,10 +17,7 @@ impl Inside {
         raw: &[u8],
     ) -> Result<usize, Fault>
         requires { Opened self.old.spot buffer.old table.old }
-        ensures answer { put result ≡ poured_result (poured self.old.spot buffer.old table.old raw.now) (cut_short (settings table.old) raw.now) }
-        ensures state { self.new.spot ≡ (poured self.old.spot buffer.old table.old raw.now).spot }
-        ensures bytes { buffer.new ≡ (poured self.old.spot buffer.old table.old raw.now).bytes }
-        ensures table { table.new ≡ (poured self.old.spot buffer.old table.old raw.now).table }
+        ensures { Pours self.old.spot buffer.old table.old raw.now (put result) self.new.spot buffer.new table.new }
     {
         let mut rest = raw;
         let mut bits = 0;

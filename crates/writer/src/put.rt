@@ -1,5 +1,5 @@
 // Putting one word.
-ghost use Rattle.std.specs.Prelude.{◌≡◌, ℕ, ◌+◌, ◌*◌, ◌<◌, ◌≤◌, cond};
+ghost use Rattle.std.specs.Prelude.{◌≡◌, ◌<◌, ◌≤◌};
 ghost use Rattle.layout.specs.Turns as turns;
 ghost use Rattle.calls.specs.Calls.{strange, moved_on, put_result, put_spot, put_bytes, put_table};
 ghost use Rattle.writer.specs.Answers.{put};

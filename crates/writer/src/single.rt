@@ -1,8 +1,7 @@
 // All words of raw bytes, put at once into a section of one channel.
-ghost use Rattle.std.specs.Prelude.{◌≡◌, ℕ, ◌+◌, ◌*◌, ◌≤◌, length};
-ghost use Rattle.calls.specs.Calls.{settings, cut_short};
+ghost use Rattle.std.specs.Prelude.{◌≡◌, length};
 ghost use Rattle.writer.specs.Answers.{put};
-ghost use Rattle.writer.specs.Filling.{Opened, poured, poured_result};
+ghost use Rattle.writer.specs.Filling.{Opened, Pours};
 
 use crate::states::Inside;
 use channel::record::Channel;
@@ -21,10 +20,7 @@ impl Inside {
     ) -> Result<usize, Fault>
         requires opened { Opened self.old.spot buffer.old table.old }
         requires single { length table.old ≡ 1 }
-        ensures answer { put result ≡ poured_result (poured self.old.spot buffer.old table.old raw.now) (cut_short (settings table.old) raw.now) }
-        ensures state { self.new.spot ≡ (poured self.old.spot buffer.old table.old raw.now).spot }
-        ensures bytes { buffer.new ≡ (poured self.old.spot buffer.old table.old raw.now).bytes }
-        ensures table { table.new ≡ (poured self.old.spot buffer.old table.old raw.now).table }
+        ensures { Pours self.old.spot buffer.old table.old raw.now (put result) self.new.spot buffer.new table.new }
     {
         let spot = self.spot;
         let row = table[0];

@@ -1,5 +1,5 @@
 // A writer is between sections, inside one, or at its end. Each state is moved into the call that ends it.
-ghost use Rattle.std.specs.Prelude.{◌≡◌, ℕ, ◌+◌, ◌*◌, ◌<◌, ◌≤◌, if◌then◌else◌};
+ghost use Rattle.std.specs.Prelude.{◌≡◌, ◌+◌, ◌*◌, ◌<◌, ◌≤◌, if◌then◌else◌};
 
 use faults::kind::Fault;
 use state::{Edge, Spot};

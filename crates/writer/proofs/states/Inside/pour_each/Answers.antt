@@ -28,7 +28,7 @@ returns-in_err-word c =
     let a : put c.from_residual.result ≡ Err (13, l.self.spot.at.bits) = search rules in
     let r = cut_off c.args.self.now.spot c.args.buffer.now c.args.table.now c.args.raw.now c.requires l.self.spot l.buffer l.table l.rest.now l.bits l.invariant l.self.turn
     c.new.result.bytes size.result c.new.ensures size.ensures.bytes size.ensures.most h (sym n ∙ c.raw_word.ensures) in
-    record { answer = a ∙ r.answer; state = r.state; bytes = r.bytes; table = r.table }
+    record { answer = a ∙ r.answer; state = r.state; left = r.left; rows = r.rows }
 
 pub returns-in_err-bits : goal.returns-in_err-bits
 returns-in_err-bits c =
@@ -39,7 +39,7 @@ returns-in_err-bits c =
     let a : put c.from_residual-in_err-bits.result ≡ Err (trouble c.in_err-bits.field-0.0) = search rules in
     let r = stuck c.args.self.now.spot c.args.buffer.now c.args.table.now c.args.raw.now c.requires l.self.spot l.buffer l.table l.rest.now l.bits l.invariant l.self.turn
     c.new.result.bytes size.result c.in_ok-word.word (trouble c.in_err-bits.field-0.0) c.put.new.self.spot c.put.new.buffer c.put.new.table c.new.ensures size.ensures.bytes (sym w ∙ c.raw_word.ensures) p.answer p.state p.bytes p.table in
-    record { answer = a ∙ r.answer; state = r.state; bytes = r.bytes; table = r.table }
+    record { answer = a ∙ r.answer; state = r.state; left = r.left; rows = r.rows }
 
 pub loop-rest-preserved : goal.loop-rest-preserved
 loop-rest-preserved c =
@@ -53,6 +53,5 @@ loop-rest-preserved c =
 pub returns : goal.returns
 returns c =
     let l = c.loop-rest in
-    let r = all-put c.args.self.now.spot c.args.buffer.now c.args.table.now c.args.raw.now c.requires l.self.spot l.buffer l.table l.rest.now l.bits l.invariant l.self.turn
-    (none_left (length l.rest.now) c.is_empty.result c.is_empty.ensures c.loop-rest-test.false) in
-    record { answer = r.answer; state = r.state; bytes = r.bytes; table = r.table }
+    all-put c.args.self.now.spot c.args.buffer.now c.args.table.now c.args.raw.now c.requires l.self.spot l.buffer l.table l.rest.now l.bits l.invariant l.self.turn
+    (none_left (length l.rest.now) c.is_empty.result c.is_empty.ensures c.loop-rest-test.false)

@@ -120,7 +120,7 @@ returns-in-Some c =
     let v = leaves c.args.self.now.spot c.args.buffer.now c.args.table.now c.args.raw.now c.min-count.result r c.requires.opened c.requires.single h c.word_bytes-size.result c.repeats.result c.remembering.result c.word_bytes-size.ensures.bytes c.repeats.ensures c.remembering.ensures in
     let w = worded c.args.self.now.spot c.args.buffer.now c.args.table.now raw n r h c.put_stream-streamed.result.fault refl size c.word_bytes-size.ensures.bytes c.or-2.result (cc (c.or-2.ensures, c.or.ensures, c.then_some-more.ensures, c.then_some-cut.ensures)) in
     let told_by = λ (o : Option Kind). answer {E = Trouble} (option_map (λ k. (number_of k, r.at)) o) (r.at - c.args.self.now.spot.at.bits) (λ x. x) in
-    record { answer = ap (λ f. Err (trouble f)) c.at-in-Some.ensures ∙ sym (w ∙ ap told_by c.in-Some.is); state = v.state; bytes = v.bytes; table = v.table }
+    record { answer = ap (λ f. Err (trouble f)) c.at-in-Some.ensures ∙ sym (w ∙ ap told_by c.in-Some.is); state = v.state; left = v.bytes; rows = v.table }
 
 pub returns-in-None : goal.returns-in-None
 returns-in-None c =
@@ -133,4 +133,4 @@ returns-in-None c =
     let v = leaves c.args.self.now.spot c.args.buffer.now c.args.table.now c.args.raw.now c.min-count.result r c.requires.opened c.requires.single h c.word_bytes-size.result c.repeats.result c.remembering.result c.word_bytes-size.ensures.bytes c.repeats.ensures c.remembering.ensures in
     let w = worded c.args.self.now.spot c.args.buffer.now c.args.table.now raw n r h c.put_stream-streamed.result.fault refl size c.word_bytes-size.ensures.bytes c.or-2.result (cc (c.or-2.ensures, c.or.ensures, c.then_some-more.ensures, c.then_some-cut.ensures)) in
     let told_by = λ (o : Option Kind). answer {E = Trouble} (option_map (λ k. (number_of k, r.at)) o) (r.at - c.args.self.now.spot.at.bits) (λ x. x) in
-    record { answer = ap (λ n. Ok (n - c.bits-in-None.result)) c.bits.ensures ∙ ap (λ n. Ok (r.at - n)) c.bits-in-None.ensures ∙ sym (w ∙ ap told_by c.in-None.is); state = v.state; bytes = v.bytes; table = v.table }
+    record { answer = ap (λ n. Ok (n - c.bits-in-None.result)) c.bits.ensures ∙ ap (λ n. Ok (r.at - n)) c.bits-in-None.ensures ∙ sym (w ∙ ap told_by c.in-None.is); state = v.state; left = v.bytes; rows = v.table }

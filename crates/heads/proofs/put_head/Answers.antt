@@ -25,25 +25,17 @@ put_first-at-requires c =
     let h : Head = c.args.head.now in
     first-room (marks h.flags) (option_copied h.name) (option_copied h.extra) (8 * length c.args.buffer.now) (omega (arith, c.size.ensures, c.if-size-buffer.false))
 
-pub put_name-at-requires : goal.put_name-at-requires
-put_name-at-requires c =
+pub put_name-at-requires-clause-room : goal.put_name-at-requires-clause-room
+put_name-at-requires-clause-room c =
     let h : Head = c.args.head.now in
     let k : length c.put_first-at.new.buffer ≡ length c.args.buffer.now = c.put_first-at.auto.buffer in
-    record {
-      few = omega (arith, k, c.if-buffer-gt-MOST_BYTES.false);
-      fits = sym c.if-not-name_fits.ensures;
-      room = name-room (marks h.flags) (option_copied h.name) (option_copied h.extra) (8 * c.put_first-at.result) (8 * length c.put_first-at.new.buffer) c.put_first-at.ensures.place (omega (arith, k, c.size.ensures, c.if-size-buffer.false));
-    }
+    name-room (marks h.flags) (option_copied h.name) (option_copied h.extra) (8 * c.put_first-at.result) (8 * length c.put_first-at.new.buffer) c.put_first-at.ensures.place (omega (arith, k, c.size.ensures, c.if-size-buffer.false))
 
-pub put_extra-at-requires : goal.put_extra-at-requires
-put_extra-at-requires c =
+pub put_extra-at-requires-clause-room : goal.put_extra-at-requires-clause-room
+put_extra-at-requires-clause-room c =
     let h : Head = c.args.head.now in
     let k : length c.put_name-at.new.buffer ≡ length c.args.buffer.now = c.put_name-at.auto.buffer ∙ c.put_first-at.auto.buffer in
-    record {
-      few = omega (arith, k, c.if-buffer-gt-MOST_BYTES.false);
-      fits = sym c.if-not-extra_fits.ensures;
-      room = extra-room (marks h.flags) (option_copied h.name) (option_copied h.extra) (8 * c.put_first-at.result) (8 * c.put_name-at.result) (8 * length c.put_name-at.new.buffer) c.put_first-at.ensures.place c.put_name-at.ensures.place (omega (arith, k, c.size.ensures, c.if-size-buffer.false));
-    }
+    extra-room (marks h.flags) (option_copied h.name) (option_copied h.extra) (8 * c.put_first-at.result) (8 * c.put_name-at.result) (8 * length c.put_name-at.new.buffer) c.put_first-at.ensures.place c.put_name-at.ensures.place (omega (arith, k, c.size.ensures, c.if-size-buffer.false))
 
 pub returns : goal.returns
 returns c =

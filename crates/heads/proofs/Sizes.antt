@@ -1,13 +1,12 @@
 -- The parts of a head, put one behind the other.
-use Rattle.std.proofs.Common.{◌≡◌, ℕ, ◌+◌, ◌*◌, ◌≤◌, Bool, true, false, cond, leb, List, [], ◌++◌, length, Some, None, Option, sym, refl, ap, ◌∙◌, append_assoc, append-nil, arith, length-append}
-use Rattle.std.proofs.lemmas.Bool.{and_parts, leb-true}
+use Rattle.std.proofs.Common.{◌≡◌, ℕ, ◌+◌, ◌*◌, ◌≤◌, Bool, true, false, cond, List, [], ◌++◌, length, Some, None, Option, sym, refl, ap, ◌∙◌, append_assoc, append-nil, arith, length-append}
 use Rattle.std.specs.Option.{option_map_or}
 use Rattle.bits.specs.Bits.{bits, bits_of, put_bits}
 use Rattle.bits.proofs.Numbers.{length-bits}
 use Rattle.bits.proofs.Files.{length-bits_of}
-use Rattle.layout.specs.Slim.{most_name, is_given}
+use Rattle.layout.specs.Slim.{is_given}
 use Rattle.calls.specs.Parts.{Marks, marks_byte, name_bits, extra_bits, head_bits}
-use Rattle.calls.specs.Calls.{name_fits, extra_fits, zero_free}
+use Rattle.calls.specs.Calls.{name_fits}
 use Rattle.calls.proofs.Buffers.{put-put}
 use Rattle.calls.proofs.Heads.{name-bits, no_name, extra-bits, no_extra}
 use Rattle.calls.proofs.Chains.{head_length}
@@ -20,18 +19,12 @@ name-size o bs e h =
     let k : name_fits (Some bs) ≡ true = ap name_fits (sym e) ∙ h in
     ap (λ z. length (name_bits z)) e ∙ ap length (name-bits bs k) ∙ omega (arith, length-append (bits_of bs) (bits 8 0), length-bits_of bs, length-bits 8 0)
 
-pub name-most : (o : Option (List ℕ)) (bs : List ℕ) → o ≡ Some bs → name_fits o ≡ true → length bs ≤ 255
-name-most o bs e h = leb-true (length bs) most_name (and_parts (leb (length bs) most_name) (zero_free bs) (ap name_fits (sym e) ∙ h)).0
-
 pub name-none : (o : Option (List ℕ)) → o ≡ None → name_bits o ≡ []
 name-none o e = ap name_bits e ∙ no_name
 
 pub extra-size : (o : Option (List ℕ)) (bs : List ℕ) → o ≡ Some bs → length (extra_bits o) ≡ 8 * (length bs + 2)
 extra-size o bs e =
     ap (λ z. length (extra_bits z)) e ∙ ap length (extra-bits bs) ∙ omega (arith, length-append (bits 16 (length bs)) (bits_of bs), length-bits_of bs, length-bits 16 (length bs))
-
-pub extra-most : (o : Option (List ℕ)) (bs : List ℕ) → o ≡ Some bs → extra_fits o ≡ true → length bs ≤ 65535
-extra-most o bs e h = leb-true (length bs) 65535 (ap extra_fits (sym e) ∙ h)
 
 pub extra-none : (o : Option (List ℕ)) → o ≡ None → extra_bits o ≡ []
 extra-none o e = ap extra_bits e ∙ no_extra

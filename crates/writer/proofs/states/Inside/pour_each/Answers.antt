@@ -2,7 +2,7 @@ use Rattle.std.proofs.Common.{◌≡◌, ℕ, ◌-◌, ◌<◌, Bool, true, fals
 use Rattle.std.proofs.lemmas.List.{take_all}
 use Rattle.std.proofs.lemmas.Bool.Decides.{nat_tests}
 use Rattle.writer.specs.Answers.{put, trouble}
-use Rattle.writer.proofs.Pouring.{starts, goes_on-is, all-put, cut_off, stuck}
+use Rattle.writer.proofs.Pouring.{goes_on-is, all-put, cut_off, stuck}
 use Rattle.writer.proofs.states.Inside.pour_each.Goals as goal
 
 -- what the test says of the bytes that are left
@@ -15,9 +15,6 @@ none_left n t e f = grind (arith, nat_tests)
 -- the bytes behind a word
 rest_of : (k : ℕ) (xs : List ℕ) → take (length xs - k) (drop k xs) ≡ drop k xs
 rest_of k xs = take_all (length xs - k) (drop k xs) (omega (arith, length-drop k xs))
-
-pub loop-rest-init : goal.loop-rest-init
-loop-rest-init c = starts c.args.self.now.spot c.args.buffer.now c.args.table.now c.args.raw.now c.requires
 
 pub returns-in_err-word : goal.returns-in_err-word
 returns-in_err-word c =

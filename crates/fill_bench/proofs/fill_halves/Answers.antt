@@ -4,13 +4,8 @@ use Rattle.state.specs.declared.Edge.{Edge}
 use Rattle.calls.specs.Calls.{begin_result, begin_bytes}
 use Rattle.writer.specs.Answers.{filled}
 use Rattle.fill_bench.specs.Files.{halves, sized_only}
-use Rattle.fill_bench.proofs.Rows.{refused, fills}
+use Rattle.fill_bench.proofs.Rows.{fills}
 use Rattle.fill_bench.proofs.fill_halves.Goals as goal
-
-pub returns-in_default : goal.returns-in_default
-returns-in_default c =
-    let (n, b) = refused (halves c.args.delta c.args.turn c.args.algorithm c.args.narrow c.args.value) _ _ c.in_default.ensures c.args.raw.now c.args.buffer.now in
-    record { bits = n; bytes = b }
 
 pub returns-in-Ok-fill : goal.returns-in-Ok-fill
 returns-in-Ok-fill c =

@@ -110,33 +110,6 @@ bytes-by at b e S h k i =
     ap (λ z. cond z (put_bits b at S) b) (sym (fits_by at (length b) e S h k i))
     ∙ ap (λ z. cond (closing_fits at e (length b)) (put_bits b at z) b) (sym i)
 
--- past every limit nothing fits
-pub fits_not : (at len : ℕ) (e : Closing) → most_bytes < len → closing_fits at e len ≡ false
-fits_not at len e h =
-    let t : leb len most_bytes ≡ false = grind (arith, nat_tests) in
-    ap (λ z. z && (leb (length (leftovers_of e)) 7 && leb (at + length (closing_bits at e)) (8 * len))) t
-
-pub fits-past : (at len : ℕ) (e : Closing) → 8 * len < at → closing_fits at e len ≡ false
-fits-past at len e h = by_tests (leb len most_bytes) (leb (length (leftovers_of e)) 7)
-  where
-    past : leb (at + length (closing_bits at e)) (8 * len) ≡ false
-    past = grind (arith, nat_tests)
-
-    by_tests : (a b : Bool) → a && (b && leb (at + length (closing_bits at e)) (8 * len)) ≡ false
-    by_tests false b = refl
-    by_tests true false = refl
-    by_tests true true = past
-
-pub fits-few : (at len : ℕ) (e : Closing) → 7 < length (leftovers_of e) → closing_fits at e len ≡ false
-fits-few at len e h = by-test (leb len most_bytes)
-  where
-    many : leb (length (leftovers_of e)) 7 ≡ false
-    many = grind (arith, nat_tests)
-
-    by-test : (a : Bool) → a && (leb (length (leftovers_of e)) 7 && leb (at + length (closing_bits at e)) (8 * len)) ≡ false
-    by-test false = refl
-    by-test true = ap (λ z. z && leb (at + length (closing_bits at e)) (8 * len)) many
-
 pub refused : (at : ℕ) (b : List ℕ) (e : Closing) → closing_fits at e (length b) ≡ false → (None ≡ closing_end at e (length b)) × (b ≡ closing_bytes at e b)
 refused at b e t = (sym (ap (λ z. cond {A = Option ℕ} z (Some ((at + length (closing_bits at e)) / 8)) None) t), sym (ap (λ z. cond z (put_bits b at (closing_bits at e)) b) t))
 

@@ -19,3 +19,10 @@ closing_bytes at e b = cond (closing_fits at e (length b)) (put_bits b at (closi
 -- a number's bits, and zeros up to a whole byte
 abbrev pub padded_bits : ℕ → ℕ → ℕ → List Bool
 padded_bits at value count = bits count value ++ replicate (gap (at + count)) false
+
+-- the byte behind them, where they lie within so many bytes
+abbrev pub padded_end : ℕ → ℕ → ℕ → ℕ → Option ℕ
+padded_end at value count len = cond (nat_le (at + length (padded_bits at value count)) (8 * len)) (Some ((at + length (padded_bits at value count)) / 8)) None
+
+abbrev pub padded_bytes : ℕ → ℕ → ℕ → List ℕ → List ℕ
+padded_bytes at value count b = cond (nat_le (at + length (padded_bits at value count)) (8 * length b)) (put_bits b at (padded_bits at value count)) b

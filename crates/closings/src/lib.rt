@@ -1,12 +1,11 @@
 // What closes a section: a tag, leftovers behind the last, and zeros up to a whole byte.
 #![tactic(auto)]
 
-ghost use Rattle.std.specs.Prelude.{◌≡◌, ℕ, ◌+◌, ◌*◌, ◌/◌, ◌^◌, ◌<◌, ◌≤◌, length, if◌then◌else◌, Some, None, nat_le};
+ghost use Rattle.std.specs.Prelude.{◌≡◌, ◌^◌, ◌<◌, ◌≤◌, length};
 ghost use Rattle.std.specs.Option.{option_map};
-ghost use Rattle.bits.specs.Bits.{put_bits};
 ghost use Rattle.format.specs.Format.{gap};
-ghost use Rattle.layout.specs.Slim.{Closing, another, ended};
-ghost use Rattle.closings.specs.Closings.{padded_bits, closing_end, closing_bytes};
+ghost use Rattle.layout.specs.Slim.{another, ended};
+ghost use Rattle.closings.specs.Closings.{padded_end, padded_bytes, closing_end, closing_bytes};
 
 use fields::bytes::are_bytes;
 use fields::field::{put_field, take_field};
@@ -25,6 +24,12 @@ const END: u64 = 15;
 // The tag of the end with leftovers; their number follows.
 const END_WITH_LEFTOVERS: u64 = 14;
 
+// The bits of a tag.
+const TAG_LEN: u32 = 4;
+
+// The bits of a tag and the number of leftovers.
+const COUNTED_LEN: u32 = 7;
+
 // How many bits lead from a place to a whole byte.
 fn gap_at(at: usize) -> u32
     ensures gap { result ≡ gap at }
@@ -38,14 +43,12 @@ fn put_padded(buffer: &mut [u8], at: usize, value: u64, count: u32) -> Option<By
     requires few { count ≤ 56 }
     requires small { value < 2 ^ count }
     requires near { at ≤ 134217735 }
-    ensures place { option_map (λ (p : BytePlace). p.bytes) result ≡ (if nat_le (at + length (padded_bits at value count)) (8 * length buffer.old) then Some ((at + length (padded_bits at value count)) / 8) else None) }
-    ensures bytes { buffer.new ≡ (if nat_le (at + length (padded_bits at value count)) (8 * length buffer.old) then put_bits buffer.old at (padded_bits at value count) else buffer.old) }
+    ensures place { option_map (λ (p : BytePlace). p.bytes) result ≡ padded_end at value count (length buffer.old) }
+    ensures bytes { buffer.new ≡ padded_bytes at value count buffer.old }
 {
     let whole = count + gap_at(at + count as usize);
-    if !put_field(buffer, BitPlace::new(at), value, whole) {
-        return None;
-    }
-    Some(BytePlace::new((at + whole as usize) / 8))
+    let end = BytePlace::new((at + whole as usize) / 8);
+    put_field(buffer, BitPlace::new(at), value, whole).then_some(end)
 }
 
 // Closes a section that another follows, and answers the byte behind.
@@ -58,7 +61,7 @@ pub fn put_more(buffer: &mut [u8], at: BitPlace) -> Option<BytePlace>
     if buffer.len() > MOST_BYTES || at > MOST_BITS {
         return None;
     }
-    put_padded(buffer, at, ANOTHER, 4)
+    put_padded(buffer, at, ANOTHER, TAG_LEN)
 }
 
 // Writes the tag, the number of leftovers and the leftovers.
@@ -71,7 +74,7 @@ fn put_leftovers(buffer: &mut [u8], at: usize, leftovers: &[u8]) -> Option<ByteP
     ensures bytes { buffer.new ≡ closing_bytes at (ended leftovers.now) buffer.old }
 {
     let count = 8 * leftovers.len() as u32;
-    let first = at + 7;
+    let first = at + COUNTED_LEN as usize;
     let end = first + count as usize;
     if end + gap_at(end) as usize > 8 * buffer.len() {
         return None;
@@ -81,7 +84,7 @@ fn put_leftovers(buffer: &mut [u8], at: usize, leftovers: &[u8]) -> Option<ByteP
         buffer,
         BitPlace::new(at),
         END_WITH_LEFTOVERS + 16 * leftovers.len() as u64,
-        7,
+        COUNTED_LEN,
     );
     put_padded(buffer, first, bytes, count)
 }
@@ -96,8 +99,8 @@ pub fn put_end(buffer: &mut [u8], at: BitPlace, leftovers: &[u8]) -> Option<Byte
     if buffer.len() > MOST_BYTES || at > MOST_BITS || leftovers.len() > MOST_LEFTOVERS {
         return None;
     }
-    if leftovers.len() == 0 {
-        return put_padded(buffer, at, END, 4);
+    if leftovers.is_empty() {
+        return put_padded(buffer, at, END, TAG_LEN);
     }
     put_leftovers(buffer, at, leftovers)
 }

@@ -1,5 +1,5 @@
 -- From a row's settings to the section that is filled.
-use Rattle.std.proofs.Common.{◌≡◌, ℕ, Bool, true, false, cond, List, [], ◌∷◌, None, Ok, Option, Result, sym, refl, ap, ◌∙◌, arith}
+use Rattle.std.proofs.Common.{◌≡◌, ℕ, Bool, true, false, cond, List, [], ◌∷◌, None, Ok, Result, sym, refl, ap, ◌∙◌, arith}
 use Rattle.faults.specs.Faults.{Answer, gives, fault}
 use Rattle.layout.specs.Recording as recordings
 use Rattle.layout.specs.Channels.{ruled}
@@ -10,20 +10,6 @@ use Rattle.state.specs.declared.Edge.{Edge}
 use Rattle.state.specs.declared.Spot.{Spot}
 use Rattle.calls.specs.Calls.{Trouble, begin_result, begin_bytes, fill_result, fill_bytes}
 use Rattle.fill_bench.specs.Files.{sized_only, sum, sum_behind, bytes_behind, filled_bits, filled_bytes}
-
--- no name, and no extra bytes
-pub without : {A : Type 0} (g : Option (List ℕ) → Option (List ℕ) → A) (x y : Option (List ℕ)) → x ≡ None → y ≡ None → g x y ≡ g None None
-without g x y p q = ap (λ z. g z y) p ∙ ap (g None) q
-
--- no row is made
-pub refused : (s : Channel) (k p : ℕ) → fault k p ≡ channel_answer (settings_of s) → (raw b : List ℕ) → (0 ≡ filled_bits s raw b) × (b ≡ filled_bytes s raw b)
-refused s k p e raw b = go (ruled (settings_of s)) e
-  where
-    go : (t : Bool) → ◌≡◌ {A = Answer (recordings.Channel × ℕ)} (fault k p) (cond t (gives (settings_of s, 0)) (fault 6 0)) →
-        (0 ≡ cond t (sum_behind (begin_result 0 sized_only None None b) s raw (begin_bytes 0 sized_only None None b)) 0)
-        × (b ≡ cond t (bytes_behind (begin_result 0 sized_only None None b) s raw (begin_bytes 0 sized_only None None b)) b)
-    go true d = let z : ◌≡◌ {A = ℕ} 0 1 = cc in absurd (omega arith)
-    go false d = (refl, refl)
 
 -- a row is made: at its starting memory
 made : (s c : Channel) → gives (parts c) ≡ channel_answer (settings_of s) → (ruled (settings_of s) ≡ true) × (c ≡ rested s)

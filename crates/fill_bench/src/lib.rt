@@ -6,8 +6,8 @@ ghost use Rattle.fill_bench.specs.Files.{halves, filled_bits, filled_bytes};
 
 use channel::make::channel;
 use state::Flags;
-use writer::begin::{absent, begin};
-use writer::states::{Denied, Filled};
+use writer::begin::begin;
+use writer::states::{Filled, Refused};
 
 // Begins a file with stamp 0 and the size flagged, fills its first section with the 16-bit words of one channel, and answers how many bits they take.
 // `delta` is 1 where differences are written. 0 where a call meets a fault; nothing is written where the settings do not keep the rules.
@@ -34,17 +34,15 @@ pub extern "C" fn fill_halves(
         single: false,
         unrepeated: false,
     };
-    let Ok(between) = begin(buffer, 0, flags, absent(), absent()) else {
+    let Ok(between) = begin(buffer, 0, flags, None, None) else {
         return 0;
     };
     match between.fill(buffer, &mut table, raw) {
-        Ok(filled) => {
-            let Filled { writer, bits } = filled;
+        Ok(Filled { writer, bits }) => {
             writer.stop();
             bits
         }
-        Err(denied) => {
-            let Denied { writer, fault: _ } = denied;
+        Err(Refused { writer, fault: _ }) => {
             writer.stop();
             0
         }

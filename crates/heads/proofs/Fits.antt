@@ -1,16 +1,22 @@
 -- Whether a head fits, and what is then answered.
-use Rattle.std.proofs.Common.{◌≡◌, ℕ, ◌+◌, ◌*◌, ◌/◌, ◌<◌, ◌≤◌, Bool, true, false, cond, ◌&&◌, leb, List, length, is_some, Some, None, Option, refl, ap, ◌∙◌, arith}
+use Rattle.std.proofs.Common.{◌≡◌, ℕ, ◌+◌, ◌*◌, ◌/◌, ◌<◌, ◌≤◌, Bool, true, false, cond, not, ◌&&◌, ◌||◌, eqb, leb, List, [], ◌∷◌, length, Option, refl, ap, ◌∙◌, arith}
 use Rattle.std.proofs.lemmas.Bool.Decides.{nat_tests}
-use Rattle.std.specs.Option.{option_map}
-use Rattle.layout.specs.Slim.{most_bytes, is_given}
+use Rattle.std.specs.List.{list_any}
+use Rattle.layout.specs.Slim.{most_bytes}
 use Rattle.calls.specs.Parts.{Marks, name_bits, extra_bits}
-use Rattle.calls.specs.Calls.{name_fits, extra_fits}
+use Rattle.calls.specs.Calls.{zero_free, name_fits, extra_fits}
 use Rattle.calls.proofs.Chains.{head_length}
 use Rattle.heads.specs.Heads.{head_fits}
 
-pub given-some : {X : Type 0} (f : X → List ℕ) (o : Option X) → is_some o ≡ is_given (option_map f o)
-given-some f None = refl
-given-some f (Some x) = refl
+-- no byte is zero exactly if none is the zero that is looked for
+pub zero_free-any : (bs : List ℕ) → not (list_any (λ b. eqb b 0) bs) ≡ zero_free bs
+unfolding zero_free
+zero_free-any [] = refl
+zero_free-any (b ∷ bs) = ap not refl ∙ by_test (eqb b 0) (zero_free-any bs)
+  where
+    by_test : (t : Bool) → not (list_any (λ b. eqb b 0) bs) ≡ zero_free bs → not (t || list_any (λ b. eqb b 0) bs) ≡ (not t && zero_free bs)
+    by_test true e = refl
+    by_test false e = e
 
 -- it does not fit
 pub too_long : (name extra : Option (List ℕ)) (h : List Bool) (len size : ℕ) → 8 * size ≡ length h → len < size → head_fits name extra h len ≡ false

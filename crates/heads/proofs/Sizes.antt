@@ -1,12 +1,12 @@
 -- The parts of a head, put one behind the other.
-use Rattle.std.proofs.Common.{◌≡◌, ℕ, ◌+◌, ◌*◌, ◌≤◌, Bool, true, false, cond, leb, List, [], ◌++◌, length, Some, None, Option, sym, refl, ap, ◌∙◌, append_assoc, append-nil, arith, length-append}
-use Rattle.std.proofs.lemmas.Bool.{and_parts, leb-true}
+use Rattle.std.proofs.Common.{◌≡◌, ℕ, ◌+◌, ◌*◌, ◌≤◌, Bool, true, false, cond, List, [], ◌++◌, length, Some, None, Option, sym, refl, ap, ◌∙◌, append_assoc, append-nil, arith, length-append}
+use Rattle.std.specs.Option.{option_map_or}
 use Rattle.bits.specs.Bits.{bits, bits_of, put_bits}
 use Rattle.bits.proofs.Numbers.{length-bits}
 use Rattle.bits.proofs.Files.{length-bits_of}
-use Rattle.layout.specs.Slim.{most_name, is_given}
+use Rattle.layout.specs.Slim.{is_given}
 use Rattle.calls.specs.Parts.{Marks, marks_byte, name_bits, extra_bits, head_bits}
-use Rattle.calls.specs.Calls.{name_fits, extra_fits, zero_free}
+use Rattle.calls.specs.Calls.{name_fits}
 use Rattle.calls.proofs.Buffers.{put-put}
 use Rattle.calls.proofs.Heads.{name-bits, no_name, extra-bits, no_extra}
 use Rattle.calls.proofs.Chains.{head_length}
@@ -19,9 +19,6 @@ name-size o bs e h =
     let k : name_fits (Some bs) ≡ true = ap name_fits (sym e) ∙ h in
     ap (λ z. length (name_bits z)) e ∙ ap length (name-bits bs k) ∙ omega (arith, length-append (bits_of bs) (bits 8 0), length-bits_of bs, length-bits 8 0)
 
-pub name-most : (o : Option (List ℕ)) (bs : List ℕ) → o ≡ Some bs → name_fits o ≡ true → length bs ≤ 255
-name-most o bs e h = leb-true (length bs) most_name (and_parts (leb (length bs) most_name) (zero_free bs) (ap name_fits (sym e) ∙ h)).0
-
 pub name-none : (o : Option (List ℕ)) → o ≡ None → name_bits o ≡ []
 name-none o e = ap name_bits e ∙ no_name
 
@@ -29,15 +26,17 @@ pub extra-size : (o : Option (List ℕ)) (bs : List ℕ) → o ≡ Some bs → l
 extra-size o bs e =
     ap (λ z. length (extra_bits z)) e ∙ ap length (extra-bits bs) ∙ omega (arith, length-append (bits 16 (length bs)) (bits_of bs), length-bits_of bs, length-bits 16 (length bs))
 
-pub extra-most : (o : Option (List ℕ)) (bs : List ℕ) → o ≡ Some bs → extra_fits o ≡ true → length bs ≤ 65535
-extra-most o bs e h = leb-true (length bs) 65535 (ap extra_fits (sym e) ∙ h)
-
 pub extra-none : (o : Option (List ℕ)) → o ≡ None → extra_bits o ≡ []
 extra-none o e = ap extra_bits e ∙ no_extra
 
-pub size-worth : (t : Bool) → 8 * cond t 4 0 ≡ cond t 32 0
-size-worth true = refl
-size-worth false = refl
+-- whether or not they are given
+pub name-length : (o : Option (List ℕ)) → name_fits o ≡ true → length (name_bits o) ≡ 8 * option_map_or (λ bs. length bs + 1) o 0
+name-length None h = ap length no_name
+name-length (Some bs) h = name-size (Some bs) bs refl h
+
+pub extra-length : (o : Option (List ℕ)) → length (extra_bits o) ≡ 8 * option_map_or (λ bs. length bs + 2) o 0
+extra-length None = ap length no_extra
+extra-length (Some bs) = extra-size (Some bs) bs refl
 
 -- ## Bytes
 

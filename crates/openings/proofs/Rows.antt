@@ -1,15 +1,19 @@
 -- The rows of a table, one after the other.
-use Rattle.std.proofs.Common.{◌≡◌, ℕ, ◌+◌, ◌-◌, ◌*◌, ◌^◌, ◌<◌, ◌≤◌, min, Bool, true, false, cond, ◌&&◌, ◌||◌, eqb, List, [], ◌++◌, length, get_or, drop, sym, refl, ap, ◌∙◌, subst, arith, length-append}
+use Rattle.std.proofs.Common.{◌≡◌, ℕ, ◌+◌, ◌-◌, ◌*◌, ◌^◌, ◌<◌, ◌≤◌, min, Bool, true, false, cond, ◌&&◌, ◌||◌, eqb, List, [], ◌∷◌, ◌++◌, length, get_or, drop, sym, refl, ap, ◌∙◌, subst, arith, length-append}
+use Rattle.std.specs.List.{list_all, sum_by}
+use Rattle.std.proofs.lemmas.List.Sums.{sum_by-cons}
 use Rattle.std.proofs.lemmas.List.{drop_more, drop_all}
 use Rattle.std.proofs.lemmas.Bool.{and_parts}
 use Rattle.std.proofs.lemmas.Bool.Decides.{nat_tests}
 use Rattle.bits.specs.Bits.{put_bits, Bytes}
 use Rattle.bits.proofs.Laws.{length-put_bits, put_bits-twice, Bytes-put_bits}
 use Rattle.layout.specs.Recording as recordings
-use Rattle.layout.specs.Channels.{ruled}
+use Rattle.layout.specs.Channels.{width, ruled}
+use Rattle.layout.proofs.Codes.{narrow-width}
 use Rattle.channel.specs.declared.record.Channel.{Channel}
 use Rattle.channel.specs.Records.{settings_of}
 use Rattle.channel.specs.Descriptions.{description_bits, describes}
+use Rattle.channel.proofs.Describing.{fields-length, length-recorded}
 use Rattle.calls.specs.Calls.{settings, describable, no_row}
 use Rattle.openings.specs.Steps.{rows_bits}
 
@@ -22,10 +26,6 @@ pub describable-next : (kept : Bool) (t : List Channel) (i : ℕ) → i < length
 unfolding describable
 describable-next kept t i h = ap (λ z. describable kept (settings z)) (drop_more t i no_row h)
 
-pub describable-end : (kept : Bool) (t : List Channel) (i : ℕ) → length t ≤ i → describable kept (settings (drop i t)) ≡ true
-unfolding describable
-describable-end kept t i h = ap (λ z. describable kept (settings z)) (drop_all i t h)
-
 pub rows_next : (kept : Bool) (t : List Channel) (i : ℕ) → i < length t → rows_bits kept (settings (drop i t)) ≡ description_bits kept (row t i) ++ rows_bits kept (settings (drop (i + 1) t))
 unfolding rows_bits
 rows_next kept t i h = ap (λ z. rows_bits kept (settings z)) (drop_more t i no_row h)
@@ -37,21 +37,44 @@ rows_end kept t i h = ap (λ z. rows_bits kept (settings z)) (drop_all i t h)
 pub length-next : (kept : Bool) (t : List Channel) (i : ℕ) → i < length t → length (rows_bits kept (settings (drop i t))) ≡ length (description_bits kept (row t i)) + length (rows_bits kept (settings (drop (i + 1) t)))
 length-next kept t i h = ap length (rows_next kept t i h) ∙ length-append (description_bits kept (row t i)) (rows_bits kept (settings (drop (i + 1) t)))
 
--- one row
-row-tests : (a b d : Bool) → (a && (b && d)) ≡ ((a && b) && d)
-row-tests true b d = refl
-row-tests false b d = refl
+-- how many bits the rows take
+pub length-rows : (kept : Bool) (t : List Channel) → sum_by (λ row. length (description_bits kept (settings_of row))) t ≡ length (rows_bits kept (settings t))
+unfolding rows_bits
+length-rows kept [] = refl
+length-rows kept (r ∷ rs) =
+    sum_by-cons (λ row. length (description_bits kept (settings_of row))) r rs ∙ ap (λ n. length (description_bits kept (settings_of r)) + n) (length-rows kept rs)
+    ∙ sym (length-append (description_bits kept (settings_of r)) (rows_bits kept (settings rs)))
 
-pub row-fails : (kept r : Bool) (t : List Channel) (i : ℕ) → i < length t → r ≡ (ruled (row t i) && (kept || eqb (row t i).repeats 1)) → r ≡ false → describable kept (settings (drop i t)) ≡ false
-row-fails kept r t i h e f =
-    let D = describable kept (settings (drop (i + 1) t)) in
-    describable-next kept t i h ∙ row-tests (ruled (row t i)) (kept || eqb (row t i).repeats 1) D ∙ ap (λ z. z && D) (sym e ∙ f)
+most-fields : (c : recordings.Channel) → length (description_bits false c) ≤ 51
+most-fields c =
+    let l = fields-length c (width c.kind) refl in
+    let w = narrow-width c.kind in
+    grind (arith, nat_tests)
 
-pub row-passes : (kept r : Bool) (t : List Channel) (i : ℕ) → i < length t → r ≡ (ruled (row t i) && (kept || eqb (row t i).repeats 1)) → r ≡ true →
-    describable kept (settings (drop (i + 1) t)) ≡ describable kept (settings (drop i t))
-row-passes kept r t i h e f =
-    let D = describable kept (settings (drop (i + 1) t)) in
-    sym (describable-next kept t i h ∙ row-tests (ruled (row t i)) (kept || eqb (row t i).repeats 1) D ∙ ap (λ z. z && D) (sym e ∙ f))
+-- a row takes at most 75 of them
+most-bits : (kept : Bool) (c : recordings.Channel) → length (description_bits kept c) ≤ 75
+most-bits true c = omega (arith, length-recorded c, most-fields c)
+most-bits false c = omega (arith, most-fields c)
+
+pub most-rows : (kept : Bool) (cs : List recordings.Channel) → length (rows_bits kept cs) ≤ 75 * length cs
+unfolding rows_bits
+most-rows kept [] = omega arith
+most-rows kept (c ∷ cs) = omega (arith, length-append (description_bits kept c) (rows_bits kept cs), most-bits kept c, most-rows kept cs)
+
+-- a row can be described: it keeps the rules, and repeats that are not recorded are 1
+abbrev pub is_describable : Bool → recordings.Channel → Bool
+is_describable kept c = ruled c && (kept || eqb c.repeats 1)
+
+-- the rows can be described exactly if each can
+pub describable-all : (kept : Bool) (t : List Channel) → list_all (λ row. is_describable kept (settings_of row)) t ≡ describable kept (settings t)
+unfolding describable
+describable-all kept [] = refl
+describable-all kept (r ∷ rs) = by_tests (ruled (settings_of r)) (kept || eqb (settings_of r).repeats 1) (describable-all kept rs)
+  where
+    by_tests : (a b : Bool) {x y : Bool} → x ≡ y → ((a && b) && x) ≡ (a && (b && y))
+    by_tests true true e = e
+    by_tests true false e = refl
+    by_tests false b e = refl
 
 pub row-ruled : (kept : Bool) (t : List Channel) (i : ℕ) → i < length t → describable kept (settings (drop i t)) ≡ true → (ruled (row t i) ≡ true) × (describable kept (settings (drop (i + 1) t)) ≡ true)
 row-ruled kept t i h d =

@@ -1,7 +1,7 @@
 -- A whole head: where it goes into a buffer, and its two parts put one behind the other.
 use Rattle.std.proofs.Common.{◌≡◌, ℕ, ◌+◌, ◌*◌, ◌<◌, ◌≤◌, Bool, true, false, leb, List, ◌++◌, length, sym, ap, ◌∙◌, arith, length-append}
 use Rattle.std.proofs.lemmas.List.{length-map}
-use Rattle.std.proofs.lemmas.Bool.{le-leb, lt-leb, and_from, and_left, and_right}
+use Rattle.std.proofs.lemmas.Bool.{le-leb, lt-leb, and_from, and_right}
 use Rattle.bits.specs.Bits.{put_bits}
 use Rattle.bits.proofs.Laws.{put_bits-twice}
 use Rattle.layout.specs.Slim.{most_bytes, most_channels, recorded}
@@ -28,11 +28,6 @@ module _ (g : Flags) (t : List Channel) (kept : Bool) (k : kept ≡ recorded (fl
   opening-length lf lr ef er =
       let a = ap length opening-parts ∙ length-append (front g (length t)) (rows_bits kept (settings t)) in
       omega (arith, a, length-any g (length t) 0)
-
-  pub shut-rows : (size at : ℕ) → describable kept (settings t) ≡ false → openable size at g t ≡ false
-  shut-rows size at d =
-      and_right (leb size most_bytes) _ (and_right (leb (length t) most_channels) _
-      (and_left _ (leb (8 * at + length (opening g t)) (8 * size)) (ap (λ z. describable z (settings t)) (sym same) ∙ d)))
 
   pub shut-room : (size at : ℕ) → 8 * size < 8 * at + length (opening g t) → openable size at g t ≡ false
   shut-room size at h =

@@ -1,13 +1,11 @@
 // Writing the head of a section: the raw size and the pointer, both still 0, the channel count, and the descriptions of the channels.
 #![tactic(auto)]
 
-ghost use Rattle.std.specs.Prelude.{◌≡◌, ℕ, ◌+◌, ◌*◌, ◌≤◌, true, ◌&&◌, ◌||◌, length, if◌then◌else◌, Some, None, ◌==◌};
+ghost use Rattle.std.specs.Prelude.{◌≡◌, ◌+◌, ◌*◌, ◌≤◌, true, ◌&&◌, ◌||◌, length, if◌then◌else◌, Some, None, ◌==◌};
 ghost use Rattle.std.specs.Option.{option_map};
 ghost use Rattle.bits.specs.Bits.{put_bits};
 ghost use Rattle.layout.specs.Channels.{ruled};
-ghost use Rattle.layout.specs.Slim.{recorded};
 ghost use Rattle.channel.specs.Records.{settings_of};
-ghost use Rattle.calls.specs.Calls as calls;
 ghost use Rattle.calls.specs.Calls.{settings, describable};
 ghost use Rattle.openings.specs.Openings.{opening, openable};
 ghost use Rattle.openings.specs.Steps.{front, rows_bits};
@@ -18,6 +16,12 @@ use fields::field::put_field;
 use fields::place::{BitPlace, BytePlace};
 use limits::{MOST_BYTES, MOST_CHANNELS};
 use state::Flags;
+
+// The bits of the raw size, and of the pointer.
+const NUMBER_LEN: u32 = 32;
+
+// The bits of the channel count.
+const COUNT_LEN: u32 = 24;
 
 // Can a row be described?
 fn row_describable(row: &Channel, recorded: bool) -> bool
@@ -30,26 +34,18 @@ fn row_describable(row: &Channel, recorded: bool) -> bool
 pub fn rows_describable(table: &[Channel], recorded: bool) -> bool
     ensures { result ≡ describable recorded (settings table.now) }
 {
-    for row in table {
-        if !row_describable(row, recorded) {
-            return false;
-        }
-    }
-    true
-}
-
-// Are repeats recorded?
-fn repeats_recorded(flags: Flags, rows: usize) -> bool
-    ensures { result ≡ recorded (calls.flags flags) rows }
-{
-    rows > 1 && !flags.unrepeated
+    table.iter().all(|row| row_describable(row, recorded))
 }
 
 // How many bits the raw size and the pointer take.
 fn zeros_len(flags: Flags) -> u32
     ensures { result ≡ (if flags.pointed then 64 else 32) }
 {
-    if flags.pointed { 64 } else { 32 }
+    if flags.pointed {
+        2 * NUMBER_LEN
+    } else {
+        NUMBER_LEN
+    }
 }
 
 // How many bits stand before the rows.
@@ -58,7 +54,11 @@ fn front_len(flags: Flags) -> u32
     ensures most { result ≤ 88 }
 {
     let zeros = zeros_len(flags);
-    if flags.single { zeros } else { zeros + 24 }
+    if flags.single {
+        zeros
+    } else {
+        zeros + COUNT_LEN
+    }
 }
 
 // How many bits the rows take.
@@ -67,11 +67,7 @@ fn rows_len(table: &[Channel], recorded: bool) -> u32
     ensures len { result ≡ length (rows_bits recorded (settings table.now)) }
     ensures most { result ≤ 2400 }
 {
-    let mut len = 0;
-    for row in table {
-        len += row.description_len(recorded);
-    }
-    len
+    table.iter().map(|row| row.description_len(recorded)).sum()
 }
 
 // Writes what stands before the rows, and answers the place behind it.
@@ -87,8 +83,8 @@ fn put_front(buffer: &mut [u8], at: BitPlace, flags: Flags, rows: usize) -> BitP
     if flags.single {
         return place;
     }
-    put_field(buffer, place, rows as u64, 24);
-    place.plus(24)
+    put_field(buffer, place, rows as u64, COUNT_LEN);
+    place.plus(COUNT_LEN as usize)
 }
 
 // Writes the descriptions of rows that can be described, and answers the place behind them.
@@ -122,7 +118,7 @@ pub fn put_opening(
     if buffer.len() > MOST_BYTES || table.len() > MOST_CHANNELS {
         return None;
     }
-    let recorded = repeats_recorded(flags, table.len());
+    let recorded = flags.records_repeats(table.len());
     if !rows_describable(table, recorded) {
         return None;
     }

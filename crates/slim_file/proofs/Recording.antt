@@ -38,10 +38,6 @@ rows_made c e = ap made e
 
 -- ## What is answered
 
--- no name, and no extra bytes
-pub without : {A : Type 0} (g : Option (List ℕ) → Option (List ℕ) → A) (x y : Option (List ℕ)) → x ≡ None → y ≡ None → g x y ≡ g None None
-without g x y p q = ap (λ z. g z y) p ∙ ap (g None) q
-
 -- behind an accepted begin
 reached : (raw b b1 : List ℕ) (t : List Channel) (e : Edge) → ltb 32768 (length raw) ≡ false → Ok e ≡ begin_result 0 sized_only None None b → b1 ≡ begin_bytes 0 sized_only None None b → t ≡ rows →
     end_result (fill_bytes e b1 t raw) (fill_table e b1 t raw) (only_spot (fill_result e b1 t raw)) ≡ record_result raw b

@@ -29,10 +29,7 @@ fn run(rt: &HostRuntime, raw: &[u8]) -> anyhow::Result<()> {
             print_bytes(rt, &buffer[0..size])?;
             println!(rt; "bytes {size}")?;
         }
-        Err(fault) => {
-            let number = fault.number();
-            println!(rt; "fault {number}")?;
-        }
+        Err(fault) => println!(rt; "{fault}")?,
     }
     Ok(())
 }

@@ -7,10 +7,9 @@ ghost use Rattle.slim_file.specs.Files.{spotted, only_spot, only_size, record_re
 use channel::make::channel;
 use channel::record::Channel;
 use faults::kind::{Fault, Kind};
-use fields::place::BitPlace;
 use state::Flags;
-use writer::begin::{absent, begin};
-use writer::states::{Between, Denied, Filled, Inside, Refused};
+use writer::begin::begin;
+use writer::states::{Between, Filled, Inside, Refused};
 
 // The most raw bytes.
 pub(crate) const MOST_RAW: usize = 32768;
@@ -27,12 +26,8 @@ fn fill(
     ensures table { table.new ≡ fill_table between.edge buffer.old table.old raw.now }
 {
     match between.fill(buffer, table, raw) {
-        Ok(filled) => {
-            let Filled { writer, bits: _ } = filled;
-            Ok(writer)
-        }
-        Err(denied) => {
-            let Denied { writer, fault } = denied;
+        Ok(Filled { writer, bits: _ }) => Ok(writer),
+        Err(Refused { writer, fault }) => {
             writer.stop();
             Err(fault)
         }
@@ -46,8 +41,7 @@ fn end(inside: Inside, buffer: &mut [u8], table: &[Channel]) -> Result<usize, Fa
 {
     match inside.last(buffer, table, &[]) {
         Ok(ended) => Ok(ended.size()),
-        Err(refused) => {
-            let Refused { writer, fault } = refused;
+        Err(Refused { writer, fault }) => {
             writer.stop();
             Err(fault)
         }
@@ -62,10 +56,7 @@ pub(crate) fn record_bytes(raw: &[u8], buffer: &mut [u8]) -> Result<usize, Fault
     ensures file { IsRecorded result buffer.new raw.now }
 {
     if raw.len() > MOST_RAW {
-        return Err(Fault {
-            kind: Kind::WrongLength,
-            place: BitPlace::new(0),
-        });
+        return Err(Kind::WrongLength.at_start());
     }
     let mut table = [channel(1, false, 0, 1, 7, 3, 10)?];
     let flags = Flags {
@@ -74,7 +65,7 @@ pub(crate) fn record_bytes(raw: &[u8], buffer: &mut [u8]) -> Result<usize, Fault
         single: false,
         unrepeated: false,
     };
-    let between = begin(buffer, 0, flags, absent(), absent())?;
+    let between = begin(buffer, 0, flags, None, None)?;
     let inside = fill(between, buffer, &mut table, raw)?;
     end(inside, buffer, &table)
 }

@@ -8,9 +8,12 @@ use Rattle.bits.proofs.Files.{length-bits_of, bits_of-inj}
 use Rattle.bits.proofs.Places.{bits_of-put_bits}
 use Rattle.bits.proofs.Laws.{Bytes-put_bits, length-put_bits, bits_of-zeros, bits_of-append-put}
 use Rattle.forms.proofs.Codes.{none-some}
+use Rattle.std.specs.Option.{option_map}
+use Rattle.fields.specs.declared.place.BytePlace.{BytePlace}
+use Rattle.state.specs.declared.Flags.{Flags}
 use Rattle.layout.specs.Slim.{most_bytes}
 use Rattle.calls.specs.Parts.{Marks, head_bits, name_bits, extra_bits}
-use Rattle.calls.specs.Calls.{Trouble, name_fits, extra_fits, begin_fault}
+use Rattle.calls.specs.Calls.{Trouble, marks, head, name_fits, extra_fits, begin_fault}
 use Rattle.calls.proofs.Heads.{head-whole}
 use Rattle.calls.proofs.Chains.{head_length, head-length}
 use Rattle.calls.proofs.Buffers.{put-put}
@@ -89,3 +92,11 @@ head_place stamp m name extra len n (t, e) =
     by_flag : (x y l v : ℕ) (t : Bool) → l ≡ 56 + cond t 32 0 + x + y → 8 * v ≡ l → cond t 11 7 ≤ v
     by_flag x y l v true q b = omega arith
     by_flag x y l v false q b = omega arith
+
+-- a head that was put, with the place that was answered
+pub head_put : (stamp : ℕ) (g : Flags) (name extra : Option (List ℕ)) (len : ℕ) (o : Option BytePlace) (at : BytePlace) → o ≡ Some at →
+    option_map (λ (x : BytePlace). x.bytes) o ≡ cond (head_fits name extra (head stamp g name extra) len) (Some (length (head stamp g name extra) / 8)) None →
+    (head_fits name extra (head stamp g name extra) len ≡ true) × HeadPlace (marks g) len at.bytes (head stamp g name extra)
+head_put stamp g name extra len o at e h =
+    let p = placed (head_fits name extra (head stamp g name extra) len) at.bytes (length (head stamp g name extra) / 8) (sym (ap (option_map (λ (x : BytePlace). x.bytes)) e) ∙ h) in
+    (p.0, head_place stamp (marks g) name extra len at.bytes p)

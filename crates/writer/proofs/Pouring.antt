@@ -2,13 +2,12 @@
 use Rattle.std.proofs.Common.{◌≡◌, ℕ, zero, suc, ◌+◌, ◌-◌, ◌*◌, ◌/◌, ◌<◌, ◌≤◌, Bool, true, false, cond, not, ◌&&◌, ◌||◌, eqb, ltb, leb, List, [], ◌∷◌, length, get_or, take, drop, set, Some, None, Ok, Err, Option, Result, sym, refl, ap, ◌∙◌, subst, arith, length-drop}
 use lib.ListN.{get_or-map}
 use lib.Seq.{map-set_same}
-use Rattle.std.proofs.lemmas.List.{drop-drop, length-map}
+use Rattle.std.proofs.lemmas.List.{length-map}
 use Rattle.std.proofs.lemmas.Bool.{and_parts, eq-eqb, ne_eqb, lt-ltb, le-ltb}
 use Rattle.std.proofs.lemmas.Bool.Decides.{nat_tests}
 use Rattle.bits.specs.Bits.{bits_of, number, put_bits, field_at}
 use Rattle.bits.proofs.Files.{take-bits_of}
 use Rattle.bits.proofs.Laws.{length-put_bits}
-use Rattle.bits.proofs.Raw.{field-drop}
 use Rattle.fields.specs.Fields.{is_raw}
 use Rattle.forms.proofs.Codes.{some_same, none-some}
 use Rattle.layout.specs.Recording as recordings
@@ -23,7 +22,7 @@ use Rattle.state.specs.declared.Edge.{Edge}
 use Rattle.state.specs.declared.Spot.{Spot}
 use Rattle.calls.specs.Calls.{Trouble, answer, unless, settings, describable, no_row, next_row, coded, row_bytes, form_in, memory_of, moved_on, putting, put_result, put_spot, put_bytes, put_table, raw_words, words_of, cut_short, Putting, longer, puts}
 use Rattle.calls.proofs.Keeping.{put_fits}
-use Rattle.writer.specs.Filling.{poured, poured_result}
+use Rattle.writer.specs.Filling.{Opened, Pours, poured, poured_result}
 use Rattle.writer.proofs.Putting.{moved}
 
 -- ## The words of raw bytes
@@ -70,23 +69,6 @@ words-next cs s (suc k) raw p h l =
     ap (λ t. cond (t || ltb (length raw) n) [] (x ∷ ws)) a ∙ ap (λ t. cond t [] (x ∷ ws)) b ∙ ap (λ y. y ∷ ws) (word_first n raw h)
     ∙ ap (λ i. field_at raw 0 (8 * n) ∷ raw_words cs (advance cs s) i (drop n raw)) j
 
--- the same, some bytes on
-words-next-at : (cs : List recordings.Channel) (s : turns.Spot) (k at : ℕ) (raw : List ℕ) → 0 < word_bytes cs s → at + word_bytes cs s ≤ length raw → length raw ≤ at + k →
-    raw_words cs s k (drop at raw) ≡ field_at raw (8 * at) (8 * word_bytes cs s) ∷ raw_words cs (advance cs s) (k - 1) (drop (at + word_bytes cs s) raw)
-words-next-at cs s k at raw p h l =
-    let n : ℕ = word_bytes cs s in
-    let d : length (drop at raw) ≡ length raw - at = simp length-drop refl in
-    let i : 8 * at + 0 ≡ 8 * at = omega arith in
-    let f : field_at (drop at raw) 0 (8 * n) ≡ field_at raw (8 * at) (8 * n) = field-drop raw at 0 (8 * n) (omega arith) ∙ ap (λ z. field_at raw z (8 * n)) i in
-    let g : drop n (drop at raw) ≡ drop (at + n) raw = drop-drop n at raw ∙ ap (λ z. drop z raw) (omega arith) in
-    words-next cs s k (drop at raw) p (omega arith) (omega arith) ∙ ap (λ y. y ∷ raw_words cs (advance cs s) (k - 1) (drop n (drop at raw))) f
-    ∙ ap (λ z. field_at raw (8 * at) (8 * n) ∷ raw_words cs (advance cs s) (k - 1) z) g
-
-words-none-at : (cs : List recordings.Channel) (s : turns.Spot) (k at : ℕ) (raw : List ℕ) → at ≤ length raw → length raw < at + word_bytes cs s → raw_words cs s k (drop at raw) ≡ []
-words-none-at cs s k at raw l h =
-    let d : length (drop at raw) ≡ length raw - at = simp length-drop refl in
-    words-none cs s k (drop at raw) (omega arith)
-
 -- their raw bytes
 bytes-more : (cs : List recordings.Channel) (s : turns.Spot) (w : ℕ) (ws : List ℕ) → raw_bytes cs s (length (w ∷ ws)) ≡ word_bytes cs s + raw_bytes cs (advance cs s) (length ws)
 unfolding raw_bytes
@@ -96,24 +78,20 @@ bytes-none : (cs : List recordings.Channel) (s : turns.Spot) → raw_bytes cs s 
 unfolding raw_bytes
 bytes-none cs s = refl
 
--- does a raw word lie at a place?
-lies : (at size len x w : ℕ) → Some w ≡ cond (is_raw at size len) (Some x) None → (at + size ≤ len) × (w ≡ x)
-lies at size len x w h = go (is_raw at size len) refl h
+-- does a raw word lie at the front?
+lies : (at size len x w : ℕ) → at ≡ 0 → Some w ≡ cond (is_raw at size len) (Some x) None → (size ≤ len) × (w ≡ x)
+lies at size len x w z h = go (is_raw at size len) refl h
   where
-    go : (t : Bool) → is_raw at size len ≡ t → Some w ≡ cond t (Some x) None → (at + size ≤ len) × (w ≡ x)
+    go : (t : Bool) → is_raw at size len ≡ t → Some w ≡ cond t (Some x) None → (size ≤ len) × (w ≡ x)
     go true e h = (grind (arith, nat_tests), some_same h)
     go false e h = absurd (none-some (sym h))
 
-lies-not : (at size len x : ℕ) → 0 < size → size ≤ 4 → None ≡ cond (is_raw at size len) (Some x) None → len < at + size
-lies-not at size len x a b h = go (is_raw at size len) refl h
+lies-not : (at size len x : ℕ) → at ≡ 0 → 0 < size → size ≤ 4 → None ≡ cond (is_raw at size len) (Some x) None → len < size
+lies-not at size len x z a b h = go (is_raw at size len) refl h
   where
-    go : (t : Bool) → is_raw at size len ≡ t → None ≡ cond t (Some x) None → len < at + size
+    go : (t : Bool) → is_raw at size len ≡ t → None ≡ cond t (Some x) None → len < size
     go true e h = absurd (none-some h)
     go false e h = grind (arith, nat_tests)
-
--- the word that was looked for at a place
-pub looked-at : (o : Option ℕ) (p at size : ℕ) (raw : List ℕ) → p ≡ at → o ≡ cond (is_raw p size (length raw)) (Some (field_at raw (8 * p) (8 * size))) None → o ≡ cond (is_raw at size (length raw)) (Some (field_at raw (8 * at) (8 * size))) None
-looked-at o p at size raw e h = h ∙ ap (λ z. cond (is_raw z size (length raw)) (Some (field_at raw (8 * z) (8 * size))) None) e
 
 -- ## Puts
 
@@ -153,9 +131,6 @@ put-joins s b t bits n w ws u d v a is ib it =
     ap (λ y. longer (bits + n) (puts y d v ws)) is ∙ ap (λ y. longer (bits + n) (puts (put_spot s b t w) y v ws)) ib ∙ ap (λ y. longer (bits + n) (puts (put_spot s b t w) (put_bytes s b t w) y ws)) it
     ∙ ap (λ y. longer (bits + y) p) e ∙ sym (longer-twice bits k p) ∙ ap (longer bits) (sym (puts-on s b t w ws o))
 
-count-joins : (cs : List recordings.Channel) (s : turns.Spot) (at size w : ℕ) (ws : List ℕ) → word_bytes cs s ≡ size → at + size + raw_bytes cs (advance cs s) (length ws) ≡ at + raw_bytes cs s (length (w ∷ ws))
-count-joins cs s at size w ws e = omega (arith, e, bytes-more cs s w ws)
-
 -- the room of a word that was put
 put-room : (s : Spot) (b : List ℕ) (t : List Channel) (w : ℕ) → putting s b t w ≡ None → s.at.bits + length (form_in (coded (next_row s t) w)) ≤ 8 * length b
 put-room s b t w o =
@@ -192,56 +167,45 @@ moved-rows s c n = go (leb c.settings.repeats (s.given + 1))
 -- ## The loop
 
 -- the words left to put give the rest of the answer
-pub record Going (s0 : Spot) (b0 : List ℕ) (t0 : List Channel) (raw : List ℕ) (s : Spot) (b : List ℕ) (t : List Channel) (at bits : ℕ) : Type 0 where
+pub record Going (s0 : Spot) (b0 : List ℕ) (t0 : List Channel) (raw : List ℕ) (s : Spot) (b : List ℕ) (t : List Channel) (rest : List ℕ) (bits : ℕ) : Type 0 where
   pub far : ℕ
-  pub reach : length raw ≤ at + far
-  pub rest : longer bits (puts s b t (raw_words (settings t0) (turn_at s) far (drop at raw))) ≡ poured s0 b0 t0 raw
-  pub count : at + raw_bytes (settings t0) (turn_at s) (length (raw_words (settings t0) (turn_at s) far (drop at raw))) ≡ raw_bytes (settings t0) turns.first (length (words_of (settings t0) raw))
+  pub reach : length rest ≤ far
+  pub words : longer bits (puts s b t (raw_words (settings t0) (turn_at s) far rest)) ≡ poured s0 b0 t0 raw
+  pub count : length raw + raw_bytes (settings t0) (turn_at s) (length (raw_words (settings t0) (turn_at s) far rest)) ≡ length rest + raw_bytes (settings t0) turns.first (length (words_of (settings t0) raw))
   pub same : settings t ≡ settings t0
   pub len : length b ≡ s.edge.len
   pub rows : length t ≡ s.rows
   pub sum : bits + s0.at.bits ≡ s.at.bits
-  pub within : at ≤ length raw
 
 -- at the start
-pub starts : (s : Spot) (b : List ℕ) (t : List Channel) (raw : List ℕ) → s.channel ≡ 0 → s.given ≡ 0 → length b ≡ s.edge.len → length t ≡ s.rows → Going s b t raw s b t 0 0
-starts s b t raw c g l r =
-    let e : turn_at s ≡ turns.first = ap {B = turns.Spot} (λ z. record { channel = z; given = s.given }) c ∙ ap {B = turns.Spot} (λ z. record { channel = 0; given = z }) g in
+pub starts : (s : Spot) (b : List ℕ) (t : List Channel) (raw : List ℕ) → Opened s b t → Going s b t raw s b t raw 0
+starts s b t raw o =
+    let e : turn_at s ≡ turns.first = ap {B = turns.Spot} (λ z. record { channel = z; given = s.given }) o.channel ∙ ap {B = turns.Spot} (λ z. record { channel = 0; given = z }) o.given in
     record {
       far = length raw;
       reach = omega arith;
-      rest = none-longer (puts s b t (raw_words (settings t) (turn_at s) (length raw) raw)) ∙ ap (λ z. puts s b t (raw_words (settings t) z (length raw) raw)) e;
-      count = plus_none (raw_bytes (settings t) (turn_at s) (length (raw_words (settings t) (turn_at s) (length raw) raw))) ∙ ap (λ z. raw_bytes (settings t) z (length (raw_words (settings t) z (length raw) raw))) e;
+      words = none-longer (puts s b t (raw_words (settings t) (turn_at s) (length raw) raw)) ∙ ap (λ z. puts s b t (raw_words (settings t) z (length raw) raw)) e;
+      count = ap (λ z. length raw + raw_bytes (settings t) z (length (raw_words (settings t) z (length raw) raw))) e;
       same = refl;
-      len = l;
-      rows = r;
+      len = o.len;
+      rows = o.rows;
       sum = omega arith;
-      within = omega arith;
     }
   where
     none-longer : (p : Putting) → longer 0 p ≡ p
     none-longer p = ap (λ z. record { fault = p.fault; sum = z; spot = p.spot; bytes = p.bytes; table = p.table }) (omega arith)
 
-    plus_none : (n : ℕ) → 0 + n ≡ n
-    plus_none n = omega arith
-
 -- what the call leaves
-pub record Left (s0 : Spot) (b0 : List ℕ) (t0 : List Channel) (raw : List ℕ) (r : Result ℕ Trouble) (s : Spot) (b : List ℕ) (t : List Channel) : Type 0 where
-  pub answer : r ≡ poured_result (poured s0 b0 t0 raw) (cut_short (settings t0) raw)
-  pub state : s ≡ (poured s0 b0 t0 raw).spot
-  pub bytes : b ≡ (poured s0 b0 t0 raw).bytes
-  pub table : t ≡ (poured s0 b0 t0 raw).table
-
-left_by : (s0 : Spot) (b0 : List ℕ) (t0 : List Channel) (raw : List ℕ) (p : Putting) (cut : Bool) (r : Result ℕ Trouble) → poured s0 b0 t0 raw ≡ p → cut_short (settings t0) raw ≡ cut → r ≡ poured_result p cut → Left s0 b0 t0 raw r p.spot p.bytes p.table
+left_by : (s0 : Spot) (b0 : List ℕ) (t0 : List Channel) (raw : List ℕ) (p : Putting) (cut : Bool) (r : Result ℕ Trouble) → poured s0 b0 t0 raw ≡ p → cut_short (settings t0) raw ≡ cut → r ≡ poured_result p cut → Pours s0 b0 t0 raw r p.spot p.bytes p.table
 left_by s0 b0 t0 raw p cut r e c h = record {
   answer = h ∙ sym (ap (λ y. poured_result y (cut_short (settings t0) raw)) e ∙ ap (poured_result p) c);
   state = sym (ap (λ (y : Putting). y.spot) e);
-  bytes = sym (ap (λ (y : Putting). y.bytes) e);
-  table = sym (ap (λ (y : Putting). y.table) e);
+  left = sym (ap (λ (y : Putting). y.bytes) e);
+  rows = sym (ap (λ (y : Putting). y.table) e);
 }
 
-module _ (s0 : Spot) (b0 : List ℕ) (t0 : List Channel) (raw : List ℕ) (s : Spot) (b : List ℕ) (t : List Channel) (at bits : ℕ) (G : Going s0 b0 t0 raw s b t at bits)
-    (kept : Bool) (rules : describable kept (settings t0) ≡ true) (turn : s.channel < s.rows) where
+module _ (s0 : Spot) (b0 : List ℕ) (t0 : List Channel) (raw : List ℕ) (O : Opened s0 b0 t0) (s : Spot) (b : List ℕ) (t : List Channel) (rest : List ℕ) (bits : ℕ) (G : Going s0 b0 t0 raw s b t rest bits)
+    (turn : s.channel < s.rows) where
   -- the row whose word is next
   row_is : channel_of (settings t0) (turn_at s) ≡ settings_of (next_row s t)
   row_is = ap (λ cs. get_or cs s.channel no_channel) (sym G.same) ∙ get_or-map settings_of t s.channel no_row
@@ -253,28 +217,32 @@ module _ (s0 : Spot) (b0 : List ℕ) (t0 : List Channel) (raw : List ℕ) (s : S
   rows_are = ap length (sym G.same) ∙ length-map t settings_of ∙ G.rows
 
   size-some : 0 < word_bytes (settings t0) (turn_at s)
-  size-some = word_some (settings t0) (all-ruled kept (settings t0) rules) (turn_at s) (omega (arith, rows_are))
+  size-some = word_some (settings t0) (all-ruled O.kept (settings t0) O.rules) (turn_at s) (omega (arith, rows_are))
 
-  -- the word that lies next in the raw bytes, and the words that are left
-  next_word : (size w : ℕ) → size ≡ row_bytes (next_row s t) → Some w ≡ cond (is_raw at size (length raw)) (Some (field_at raw (8 * at) (8 * size))) None →
-      (at + size ≤ length raw) × (raw_words (settings t0) (turn_at s) G.far (drop at raw) ≡ w ∷ raw_words (settings t0) (advance (settings t0) (turn_at s)) (G.far - 1) (drop (at + size) raw))
-  next_word size w e h =
-      let (l, x) = lies at size (length raw) (field_at raw (8 * at) (8 * size)) w h in
+  -- the word that lies at the front, and the words behind it
+  next_word : (at size w : ℕ) → at ≡ 0 → size ≡ row_bytes (next_row s t) → Some w ≡ cond (is_raw at size (length rest)) (Some (field_at rest (8 * at) (8 * size))) None →
+      (size ≤ length rest) × (raw_words (settings t0) (turn_at s) G.far rest ≡ w ∷ raw_words (settings t0) (advance (settings t0) (turn_at s)) (G.far - 1) (drop size rest))
+  next_word at size w z e h =
+      let (l, x) = lies at size (length rest) (field_at rest (8 * at) (8 * size)) w z h in
       let i : word_bytes (settings t0) (turn_at s) ≡ size = size_is ∙ sym e in
-      let n = words-next-at (settings t0) (turn_at s) G.far at raw size-some (omega arith) G.reach in
-      (l, n ∙ ap (λ z. field_at raw (8 * at) (8 * z) ∷ raw_words (settings t0) (advance (settings t0) (turn_at s)) (G.far - 1) (drop (at + z) raw)) i ∙ ap (λ y. y ∷ raw_words (settings t0) (advance (settings t0) (turn_at s)) (G.far - 1) (drop (at + size) raw)) (sym x))
+      let j : 8 * at ≡ 0 = omega arith in
+      let n = words-next (settings t0) (turn_at s) G.far rest size-some (omega arith) G.reach in (
+        l,
+        n ∙ ap (λ z. field_at rest 0 (8 * z) ∷ raw_words (settings t0) (advance (settings t0) (turn_at s)) (G.far - 1) (drop z rest)) i
+            ∙ ap (λ y. y ∷ raw_words (settings t0) (advance (settings t0) (turn_at s)) (G.far - 1) (drop size rest)) (sym (x ∙ ap (λ z. field_at rest z (8 * size)) j)),
+      )
 
-  -- no word lies next
-  no_word : (size : ℕ) → size ≡ row_bytes (next_row s t) → size ≤ 4 → None ≡ cond (is_raw at size (length raw)) (Some (field_at raw (8 * at) (8 * size))) None →
-      raw_words (settings t0) (turn_at s) G.far (drop at raw) ≡ []
-  no_word size e m h =
+  -- no word lies there
+  no_word : (at size : ℕ) → at ≡ 0 → size ≡ row_bytes (next_row s t) → size ≤ 4 → None ≡ cond (is_raw at size (length rest)) (Some (field_at rest (8 * at) (8 * size))) None →
+      raw_words (settings t0) (turn_at s) G.far rest ≡ []
+  no_word at size z e m h =
       let i : word_bytes (settings t0) (turn_at s) ≡ size = size_is ∙ sym e in
-      words-none-at (settings t0) (turn_at s) G.far at raw G.within (omega (arith, i, lies-not at size (length raw) (field_at raw (8 * at) (8 * size)) (omega (arith, i, size-some)) m h))
+      words-none (settings t0) (turn_at s) G.far rest (omega (arith, i, lies-not at size (length rest) (field_at rest (8 * at) (8 * size)) z (omega (arith, i, size-some)) m h))
 
   -- a word was put
-  pub goes_on-is : (size w n : ℕ) (u : Spot) (d : List ℕ) (v : List Channel) → size ≡ row_bytes (next_row s t) → Some w ≡ cond (is_raw at size (length raw)) (Some (field_at raw (8 * at) (8 * size))) None →
-      Ok n ≡ put_result s b t w → u ≡ put_spot s b t w → d ≡ put_bytes s b t w → v ≡ put_table s b t w → Going s0 b0 t0 raw u d v (at + size) (bits + n)
-  goes_on-is size w n u d v z x a is ib it =
+  pub goes_on-is : (at size w n : ℕ) (u : Spot) (d : List ℕ) (v : List Channel) → at ≡ 0 → size ≡ row_bytes (next_row s t) → Some w ≡ cond (is_raw at size (length rest)) (Some (field_at rest (8 * at) (8 * size))) None →
+      Ok n ≡ put_result s b t w → u ≡ put_spot s b t w → d ≡ put_bytes s b t w → v ≡ put_table s b t w → Going s0 b0 t0 raw u d v (drop size rest) (bits + n)
+  goes_on-is at size w n u d v y z x a is ib it =
       let c : Channel = next_row s t in
       let f : List Bool = form_in (coded (next_row s t) w) in
       let m : ℕ = memory_of (coded (next_row s t) w) in
@@ -284,63 +252,70 @@ module _ (s0 : Spot) (b0 : List ℕ) (t0 : List Channel) (raw : List ℕ) (s : S
       let T : v ≡ set t s.channel (remembering c m) = it ∙ ap (λ o. unless o t (set t s.channel (remembering c m))) o in
       let M = moved s c n in
       let turned : turn_at u ≡ advance (settings t0) (turn_at s) = ap turn_at S ∙ moved-turn (settings t0) s c n row_is rows_are in
-      let (l, ws) = next_word size w z x in
+      let (l, ws) = next_word at size w y z x in
+      let D : length (drop size rest) ≡ length rest - size = simp length-drop refl in
       let ss : settings v ≡ settings t = ap settings T ∙ map-set_same settings_of t s.channel (remembering c m) no_row refl in
       let room : s.at.bits + length f ≤ 8 * length b = put-room s b t w o in
       let edge : u.edge ≡ s.edge = ap (λ (y : Spot). y.edge) S ∙ M.edge in
       record {
         far = G.far - 1;
         reach = omega (arith, G.reach, size-some, size_is, z);
-        rest =
-            ap (λ y. longer (bits + n) (puts u d v (raw_words (settings t0) y (G.far - 1) (drop (at + size) raw)))) turned
-            ∙ put-joins s b t bits n w (raw_words (settings t0) (advance (settings t0) (turn_at s)) (G.far - 1) (drop (at + size) raw)) u d v a is ib it
-            ∙ ap (λ y. longer bits (puts s b t y)) (sym ws) ∙ G.rest;
+        words =
+            ap (λ y. longer (bits + n) (puts u d v (raw_words (settings t0) y (G.far - 1) (drop size rest)))) turned
+            ∙ put-joins s b t bits n w (raw_words (settings t0) (advance (settings t0) (turn_at s)) (G.far - 1) (drop size rest)) u d v a is ib it
+            ∙ ap (λ y. longer bits (puts s b t y)) (sym ws) ∙ G.words;
         count =
-            ap (λ y. at + size + raw_bytes (settings t0) y (length (raw_words (settings t0) y (G.far - 1) (drop (at + size) raw)))) turned
-            ∙ count-joins (settings t0) (turn_at s) at size w (raw_words (settings t0) (advance (settings t0) (turn_at s)) (G.far - 1) (drop (at + size) raw)) (size_is ∙ sym z)
-            ∙ ap (λ y. at + raw_bytes (settings t0) (turn_at s) (length y)) (sym ws) ∙ G.count;
+            ap (λ y. length raw + raw_bytes (settings t0) y (length (raw_words (settings t0) y (G.far - 1) (drop size rest)))) turned
+            ∙ omega (
+              arith,
+              G.count,
+              ap (λ y. raw_bytes (settings t0) (turn_at s) (length y)) ws,
+              bytes-more (settings t0) (turn_at s) w (raw_words (settings t0) (advance (settings t0) (turn_at s)) (G.far - 1) (drop size rest)),
+              size_is,
+              z,
+              l,
+              D,
+            );
         same = ss ∙ G.same;
         len = ap length B ∙ length-put_bits b s.at.bits f room ∙ G.len ∙ ap (λ (y : Edge). y.len) (sym edge);
         rows = sym (length-map v settings_of) ∙ ap length ss ∙ length-map t settings_of ∙ G.rows ∙ sym (ap (λ (y : Spot). y.rows) S ∙ moved-rows s c n);
         sum = omega (arith, G.sum, ap (λ (y : Spot). y.at.bits) S, M.at);
-        within = l;
       }
 
   -- the words end here
-  ends : raw_words (settings t0) (turn_at s) G.far (drop at raw) ≡ [] →
-      (poured s0 b0 t0 raw ≡ record { fault = None; sum = bits; spot = s; bytes = b; table = t }) × (cut_short (settings t0) raw ≡ not (eqb at (length raw)))
+  ends : raw_words (settings t0) (turn_at s) G.far rest ≡ [] →
+      (poured s0 b0 t0 raw ≡ record { fault = None; sum = bits; spot = s; bytes = b; table = t }) × (length raw ≡ length rest + raw_bytes (settings t0) turns.first (length (words_of (settings t0) raw)))
   ends e =
-      let i : bits + 0 ≡ bits = omega arith in
-      let j : at + 0 ≡ at = omega arith in (
-        sym G.rest ∙ ap (λ y. longer bits (puts s b t y)) e ∙ ap (longer bits) (puts_none s b t) ∙ ap (λ y. record { fault = None; sum = y; spot = s; bytes = b; table = t }) i,
-        ap (λ y. not (eqb y (length raw))) (sym G.count ∙ ap (λ y. at + raw_bytes (settings t0) (turn_at s) (length y)) e ∙ ap (λ y. at + y) (bytes-none (settings t0) (turn_at s)) ∙ j),
+      let i : bits + 0 ≡ bits = omega arith in (
+        sym G.words ∙ ap (λ y. longer bits (puts s b t y)) e ∙ ap (longer bits) (puts_none s b t) ∙ ap (λ y. record { fault = None; sum = y; spot = s; bytes = b; table = t }) i,
+        omega (arith, G.count, ap (λ y. raw_bytes (settings t0) (turn_at s) (length y)) e, bytes-none (settings t0) (turn_at s)),
       )
 
   -- all words are put
-  pub all-put : length raw ≤ at → Left s0 b0 t0 raw (Ok bits) s b t
+  pub all-put : length rest ≡ 0 → Pours s0 b0 t0 raw (Ok bits) s b t
   all-put h =
-      let (p, q) = ends (words-none-at (settings t0) (turn_at s) G.far at raw G.within (omega (arith, size-some))) in
-      let x : eqb at (length raw) ≡ true = eq-eqb at (length raw) (omega (arith, G.within)) in
-      left_by s0 b0 t0 raw (record { fault = None; sum = bits; spot = s; bytes = b; table = t }) false (Ok bits) p (q ∙ ap not x) refl
+      let (p, q) = ends (words-none (settings t0) (turn_at s) G.far rest (omega (arith, size-some))) in
+      let x = eq-eqb (raw_bytes (settings t0) turns.first (length (words_of (settings t0) raw))) (length raw) (omega arith) in
+      left_by s0 b0 t0 raw (record { fault = None; sum = bits; spot = s; bytes = b; table = t }) false (Ok bits) p (ap not x) refl
 
   -- bytes are left that are no whole word
-  pub cut_off : (size : ℕ) → size ≡ row_bytes (next_row s t) → size ≤ 4 → at < length raw → None ≡ cond (is_raw at size (length raw)) (Some (field_at raw (8 * at) (8 * size))) None → Left s0 b0 t0 raw (Err (13, s.at.bits)) s b t
-  cut_off size e m h n =
-      let (p, q) = ends (no_word size e m n) in
-      let x : eqb at (length raw) ≡ false = ne_eqb at (length raw) (λ i. omega arith) in
-      left_by s0 b0 t0 raw (record { fault = None; sum = bits; spot = s; bytes = b; table = t }) true (Err (13, s.at.bits)) p (q ∙ ap not x) refl
+  pub cut_off : (at size : ℕ) → at ≡ 0 → size ≡ row_bytes (next_row s t) → size ≤ 4 → 0 < length rest → None ≡ cond (is_raw at size (length rest)) (Some (field_at rest (8 * at) (8 * size))) None → Pours s0 b0 t0 raw (Err (13, s.at.bits)) s b t
+  cut_off at size y e m h n =
+      let (p, q) = ends (no_word at size y e m n) in
+      let x = ne_eqb (raw_bytes (settings t0) turns.first (length (words_of (settings t0) raw))) (length raw) (λ i. omega arith) in
+      left_by s0 b0 t0 raw (record { fault = None; sum = bits; spot = s; bytes = b; table = t }) true (Err (13, s.at.bits)) p (ap not x) refl
 
   -- a word was refused
-  pub stuck : (size w : ℕ) (f : Trouble) (u : Spot) (d : List ℕ) (v : List Channel) → size ≡ row_bytes (next_row s t) → Some w ≡ cond (is_raw at size (length raw)) (Some (field_at raw (8 * at) (8 * size))) None →
-      Err f ≡ put_result s b t w → u ≡ put_spot s b t w → d ≡ put_bytes s b t w → v ≡ put_table s b t w → Left s0 b0 t0 raw (Err f) u d v
-  stuck size w f u d v z x a is ib it =
+  pub stuck : (at size w : ℕ) (f : Trouble) (u : Spot) (d : List ℕ) (v : List Channel) → at ≡ 0 → size ≡ row_bytes (next_row s t) → Some w ≡ cond (is_raw at size (length rest)) (Some (field_at rest (8 * at) (8 * size))) None →
+      Err f ≡ put_result s b t w → u ≡ put_spot s b t w → d ≡ put_bytes s b t w → v ≡ put_table s b t w → Pours s0 b0 t0 raw (Err f) u d v
+  stuck at size w f u d v y z x a is ib it =
       let g : List Bool = form_in (coded (next_row s t) w) in
       let o = refused (putting s b t w) f (length g) a in
-      let (l, ws) = next_word size w z x in
+      let (l, ws) = next_word at size w y z x in
       let S : u ≡ s = is ∙ ap (λ o. unless o s (moved_on s (next_row s t) (length g))) o in
       let B : d ≡ b = ib ∙ ap (λ o. unless o b (put_bits b s.at.bits g)) o in
       let T : v ≡ t = it ∙ ap (λ o. unless o t (set t s.channel (remembering (next_row s t) (memory_of (coded (next_row s t) w))))) o in
       let p : poured s0 b0 t0 raw ≡ record { fault = Some f; sum = bits + 0; spot = s; bytes = b; table = t } =
-      sym G.rest ∙ ap (λ y. longer bits (puts s b t y)) ws ∙ ap (longer bits) (puts-stuck s b t w (raw_words (settings t0) (advance (settings t0) (turn_at s)) (G.far - 1) (drop (at + size) raw)) f o) in
+      sym G.words ∙ ap (λ y. longer bits (puts s b t y)) ws ∙ ap (longer bits) (puts-stuck s b t w (raw_words (settings t0) (advance (settings t0) (turn_at s)) (G.far - 1) (drop size rest)) f o) in
       let L = left_by s0 b0 t0 raw (record { fault = Some f; sum = bits + 0; spot = s; bytes = b; table = t }) (cut_short (settings t0) raw) (Err f) p refl refl in
-      record { answer = L.answer; state = S ∙ L.state; bytes = B ∙ L.bytes; table = T ∙ L.table }
+      record { answer = L.answer; state = S ∙ L.state; left = B ∙ L.left; rows = T ∙ L.rows }

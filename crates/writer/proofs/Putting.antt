@@ -1,5 +1,5 @@
 -- One word put: the step's answer, and that of the call.
-use Rattle.std.proofs.Common.{◌≡◌, ℕ, ◌+◌, ◌*◌, ◌≤◌, Bool, true, false, cond, not, ltb, leb, List, length, Some, None, Option, sym, refl, ap, ◌∙◌, arith}
+use Rattle.std.proofs.Common.{◌≡◌, ℕ, ◌+◌, ◌*◌, ◌≤◌, Bool, true, false, cond, not, ltb, leb, List, length, Some, None, Option, sym, refl, ap, ◌∙◌, subst, arith}
 use Rattle.std.proofs.lemmas.Bool.Decides.{nat_tests}
 use Rattle.bits.specs.Bits.{put_bits}
 use Rattle.forms.proofs.Codes.{none-some}
@@ -10,6 +10,8 @@ use Rattle.layout.specs.Slim.{most_bytes}
 use Rattle.layout.specs.Turns.{following}
 use Rattle.channel.specs.declared.record.Channel.{Channel}
 use Rattle.channel.specs.Records.{settings_of}
+use Rattle.channel.specs.declared.channel_coder.ChannelCoder.{ChannelCoder}
+use Rattle.channel.specs.Piles.{CoderOf}
 use Rattle.channel.specs.Words.{kept_put}
 use Rattle.state.specs.declared.Spot.{Spot}
 use Rattle.calls.specs.Calls.{Trouble, strange, row_bytes, form_fault, form_in, memory_of, put_fault, moved_on}
@@ -23,6 +25,10 @@ fault_of (fault n p) = Some (n, p)
 abbrev given_of : {A : Type 0} → A → Answer A → A
 given_of d (gives a) = a
 given_of d (fault n p) = d
+
+-- the coder that was handed out is the row's
+pub coded_by : (r : Channel) (k : ChannelCoder) (o : Option ChannelCoder) → o ≡ Some k → CoderOf (settings_of r) o → CoderOf (settings_of r) (Some k)
+coded_by r k o e h = subst (CoderOf (settings_of r)) e h
 
 -- ## The step's answer, by the form
 

@@ -1,5 +1,5 @@
 // Closing a section, and ending a file.
-ghost use Rattle.std.specs.Prelude.{◌≡◌, ℕ, ◌+◌, ◌*◌, ◌≤◌, length, if◌then◌else◌};
+ghost use Rattle.std.specs.Prelude.{◌≡◌, ◌+◌, ◌*◌, ◌≤◌, length, if◌then◌else◌};
 ghost use Rattle.calls.specs.Calls.{fields_filled, size_filled, more_result, more_bytes, last_result, last_bytes};
 ghost use Rattle.calls.specs.Runs.{EndsRecorded};
 ghost use Rattle.writer.specs.Answers.{closed, ended};
@@ -8,14 +8,12 @@ use crate::put::is_strange;
 use crate::states::{Between, Ended, Inside, Refused};
 use channel::record::Channel;
 use closings::{put_end, put_more};
-use faults::kind::{Fault, Kind};
+use faults::kind::Kind;
 use fields::part::put_u32;
-use fields::place::{BitPlace, BytePlace};
+use fields::place::BytePlace;
+use heads::SIZE_BYTE;
 use limits::{MOST_LEFTOVERS, MOST_SECTIONS};
 use state::{Edge, Spot};
-
-// The byte where the size stands, behind the first two bytes, the stamp and the flags.
-const SIZE_BYTE: usize = 7;
 
 // Writes a section's raw size and, if flagged, its pointer into their own bytes.
 fn fill_fields(spot: Spot, buffer: &mut [u8], pointer: u32)
@@ -42,44 +40,33 @@ fn fill_size(spot: Spot, buffer: &mut [u8])
 }
 
 impl Inside {
-    // The writer comes back with a fault.
-    pub(crate) fn refused(self, kind: Kind, place: BitPlace) -> Refused
-        ensures { (result.writer.spot ≡ self.spot) × ((result.fault.kind ≡ kind) × (result.fault.place ≡ place)) }
-    {
-        Refused {
-            writer: self,
-            fault: Fault { kind, place },
-        }
-    }
-
     // Closes the section; another follows. Fills in its raw size and its pointer.
     // Faults: 1 buffer or table of another length, 8 no words, 9 the 64th section, 2 it does not fit.
-    pub fn more(self, buffer: &mut [u8], table: &[Channel]) -> Result<Between, Refused>
+    pub fn more(self, buffer: &mut [u8], table: &[Channel]) -> Result<Between, Refused<Inside>>
         ensures answer { closed result ≡ more_result self.spot buffer.old table.now }
         ensures bytes { buffer.new ≡ more_bytes self.spot buffer.old table.now }
     {
         let spot = self.spot;
         if is_strange(spot, buffer.len(), table.len()) {
-            return Err(self.refused(Kind::WrongLength, BitPlace::new(0)));
+            return Err(Refused::new(self, Kind::WrongLength.at_start()));
         }
         if spot.raw == 0 {
-            return Err(self.refused(Kind::NoSection, spot.at));
+            return Err(Refused::new(self, Kind::NoSection.at(spot.at)));
         }
         if spot.edge.sections + 1 >= MOST_SECTIONS {
-            return Err(self.refused(Kind::OverLimit, spot.at));
+            return Err(Refused::new(self, Kind::OverLimit.at(spot.at)));
         }
         let Some(end) = put_more(buffer, spot.at) else {
-            return Err(self.refused(Kind::OutputTooShort, spot.at));
+            return Err(Refused::new(self, Kind::OutputTooShort.at(spot.at)));
         };
         let Inside { spot: _ } = self;
         fill_fields(spot, buffer, end.bytes() as u32);
         Ok(Between {
             edge: Edge {
-                len: spot.edge.len,
-                flags: spot.edge.flags,
                 at: end,
                 sections: spot.edge.sections + 1,
                 raw: spot.edge.raw + spot.raw,
+                ..spot.edge
             },
         })
     }
@@ -91,23 +78,23 @@ impl Inside {
         buffer: &mut [u8],
         table: &[Channel],
         leftovers: &[u8],
-    ) -> Result<Ended, Refused>
+    ) -> Result<Ended, Refused<Inside>>
         ensures answer { ended result ≡ last_result self.spot buffer.old table.now leftovers.now }
         ensures bytes { buffer.new ≡ last_bytes self.spot buffer.old table.now leftovers.now }
         ensures recorded { EndsRecorded self.spot buffer.old table.now leftovers.now (ended result) buffer.new }
     {
         let spot = self.spot;
         if is_strange(spot, buffer.len(), table.len()) {
-            return Err(self.refused(Kind::WrongLength, BitPlace::new(0)));
+            return Err(Refused::new(self, Kind::WrongLength.at_start()));
         }
         if spot.raw == 0 {
-            return Err(self.refused(Kind::NoSection, spot.at));
+            return Err(Refused::new(self, Kind::NoSection.at(spot.at)));
         }
         if leftovers.len() > MOST_LEFTOVERS {
-            return Err(self.refused(Kind::LeftoverCount, spot.at));
+            return Err(Refused::new(self, Kind::LeftoverCount.at(spot.at)));
         }
         let Some(end) = put_end(buffer, spot.at, leftovers) else {
-            return Err(self.refused(Kind::OutputTooShort, spot.at));
+            return Err(Refused::new(self, Kind::OutputTooShort.at(spot.at)));
         };
         let Inside { spot: _ } = self;
         fill_fields(spot, buffer, 0);

@@ -1,21 +1,19 @@
 // Filling a section from raw bytes.
-ghost use Rattle.std.specs.Prelude.{◌≡◌, ℕ, ◌+◌, ◌*◌, ◌≤◌, Bool, true, length};
-ghost use Rattle.calls.specs.Calls.{start, settings, describable, cut_short, fill_result, fill_bytes, fill_table};
+ghost use Rattle.std.specs.Prelude.{◌≡◌};
+ghost use Rattle.calls.specs.Calls.{start, settings, cut_short, fill_result, fill_bytes, fill_table};
 ghost use Rattle.writer.specs.Answers.{put, filled};
-ghost use Rattle.writer.specs.Filling.{poured, poured_result, poured_bytes};
+ghost use Rattle.writer.specs.Filling.{Opened, poured, poured_result, poured_bytes};
 
 use crate::guard::Guard;
 use crate::rows::rest;
-use crate::states::{Between, Denied, Filled, Inside};
+use crate::states::{Between, Filled, Inside, Refused};
 use channel::record::Channel;
 use faults::kind::Fault;
 
 impl Inside {
     // Puts all words of raw bytes, under a guard that zeroes the section where one meets a fault.
     fn pour(&mut self, buffer: &mut [u8], table: &mut [Channel], raw: &[u8]) -> Result<usize, Fault>
-        requires first { (self.old.spot.channel ≡ 0) × ((self.old.spot.given ≡ 0) × (self.old.spot.raw ≡ 0)) }
-        requires lengths { (length buffer.old ≡ self.old.spot.edge.len) × (length table.old ≡ self.old.spot.rows) }
-        requires rows { (kept : Bool) × (describable kept (settings table.old) ≡ true) }
+        requires { Opened self.old.spot buffer.old table.old }
         ensures answer { put result ≡ poured_result (poured self.old.spot buffer.old table.old raw.now) (cut_short (settings table.old) raw.now) }
         ensures state { self.new.spot ≡ (poured self.old.spot buffer.old table.old raw.now).spot }
         ensures bytes { buffer.new ≡ poured_bytes (poured self.old.spot buffer.old table.old raw.now) (cut_short (settings table.old) raw.now) (start self.old.spot.edge) }
@@ -45,15 +43,12 @@ impl Between {
         buffer: &mut [u8],
         table: &mut [Channel],
         raw: &[u8],
-    ) -> Result<Filled, Denied>
+    ) -> Result<Filled, Refused<Between>>
         ensures answer { filled result ≡ fill_result self.edge buffer.old table.old raw.now }
         ensures bytes { buffer.new ≡ fill_bytes self.edge buffer.old table.old raw.now }
         ensures table { table.new ≡ fill_table self.edge buffer.old table.old raw.now }
     {
-        let mut inside = match self.open(buffer, table) {
-            Ok(inside) => inside,
-            Err(denied) => return Err(denied),
-        };
+        let mut inside = self.open(buffer, table)?;
         match inside.pour(buffer, table, raw) {
             Ok(bits) => Ok(Filled {
                 writer: inside,
@@ -61,10 +56,7 @@ impl Between {
             }),
             Err(fault) => {
                 rest(table);
-                Err(Denied {
-                    writer: inside.edge_of(),
-                    fault,
-                })
+                Err(Refused::new(inside.edge_of(), fault))
             }
         }
     }

@@ -1,15 +1,12 @@
 // Opening a section.
 ghost use Rattle.std.specs.Prelude.{◌≡◌};
-ghost use Rattle.calls.specs.Calls as calls;
 ghost use Rattle.calls.specs.Calls.{wrong_count, open_result, open_bytes, open_table};
-ghost use Rattle.layout.specs.Slim as slim;
 ghost use Rattle.writer.specs.Answers.{opened};
 
 use crate::rows::rest;
-use crate::states::{Between, Denied, Inside};
+use crate::states::{Between, Inside, Refused};
 use channel::record::Channel;
-use faults::kind::{Fault, Kind};
-use fields::place::BitPlace;
+use faults::kind::Kind;
 use limits::MOST_CHANNELS;
 use openings::{put_opening, rows_describable};
 use state::{Flags, Spot};
@@ -21,34 +18,27 @@ fn is_wrong_count(flags: Flags, count: usize) -> bool
     count == 0 || count > MOST_CHANNELS || flags.single && count != 1
 }
 
-// Are the repeats of so many channels recorded?
-fn repeats_recorded(flags: Flags, count: usize) -> bool
-    ensures { result ≡ slim.recorded (calls.flags flags) count }
-{
-    count > 1 && !flags.unrepeated
-}
-
 impl Between {
     // Writes the head of a section, with raw size and pointer 0, and puts all rows at their starting memories.
     // Faults: 1 buffer of another length, 5 wrong number of channels, 6 a row that cannot be described, 2 it does not fit.
-    pub fn open(self, buffer: &mut [u8], table: &mut [Channel]) -> Result<Inside, Denied>
+    pub fn open(self, buffer: &mut [u8], table: &mut [Channel]) -> Result<Inside, Refused<Between>>
         ensures answer { opened result ≡ open_result self.edge buffer.old table.old }
         ensures bytes { buffer.new ≡ open_bytes self.edge buffer.old table.old }
         ensures table { table.new ≡ open_table self.edge buffer.old table.old }
     {
         let edge = self.edge;
         if buffer.len() != edge.len {
-            return Err(self.denied(Kind::WrongLength, BitPlace::new(0)));
+            return Err(Refused::new(self, Kind::WrongLength.at_start()));
         }
         let start = edge.at.first_bit();
         if is_wrong_count(edge.flags, table.len()) {
-            return Err(self.denied(Kind::ChannelCount, start));
+            return Err(Refused::new(self, Kind::ChannelCount.at(start)));
         }
-        if !rows_describable(table, repeats_recorded(edge.flags, table.len())) {
-            return Err(self.denied(Kind::BadSetting, start));
+        if !rows_describable(table, edge.flags.records_repeats(table.len())) {
+            return Err(Refused::new(self, Kind::BadSetting.at(start)));
         }
         let Some(at) = put_opening(buffer, edge.at, edge.flags, table) else {
-            return Err(self.denied(Kind::OutputTooShort, start));
+            return Err(Refused::new(self, Kind::OutputTooShort.at(start)));
         };
         let Between { edge: _ } = self;
         rest(table);
@@ -62,15 +52,5 @@ impl Between {
                 raw: 0,
             },
         })
-    }
-
-    // The writer comes back with a fault.
-    fn denied(self, kind: Kind, place: BitPlace) -> Denied
-        ensures { (result.writer.edge ≡ self.edge) × ((result.fault.kind ≡ kind) × (result.fault.place ≡ place)) }
-    {
-        Denied {
-            writer: self,
-            fault: Fault { kind, place },
-        }
     }
 }

@@ -1,5 +1,5 @@
 // Putting one word.
-ghost use Rattle.std.specs.Prelude.{◌≡◌, ℕ, ◌+◌, ◌*◌, ◌<◌, ◌≤◌, cond};
+ghost use Rattle.std.specs.Prelude.{◌≡◌, ◌<◌, ◌≤◌};
 ghost use Rattle.layout.specs.Turns as turns;
 ghost use Rattle.calls.specs.Calls.{strange, moved_on, put_result, put_spot, put_bytes, put_table};
 ghost use Rattle.writer.specs.Answers.{put};
@@ -42,21 +42,18 @@ fn moved_on(spot: Spot, row: &Channel, len: u32) -> Spot
     let given = spot.given + 1;
     if row.repeats() <= given {
         Spot {
-            edge: spot.edge,
             at,
-            rows: spot.rows,
             channel: following(spot.rows, spot.channel),
             given: 0,
             raw,
+            ..spot
         }
     } else {
         Spot {
-            edge: spot.edge,
             at,
-            rows: spot.rows,
-            channel: spot.channel,
             given,
             raw,
+            ..spot
         }
     }
 }
@@ -72,28 +69,14 @@ impl Inside {
     {
         let spot = self.spot;
         if is_strange(spot, buffer.len(), table.len()) {
-            return Err(Fault {
-                kind: Kind::WrongLength,
-                place: BitPlace::new(0),
-            });
+            return Err(Kind::WrongLength.at_start());
         }
         let row = table[spot.channel];
-        let Some(coder) = row.coder() else {
-            return Err(Fault {
-                kind: Kind::NoForm,
-                place: spot.at,
-            });
-        };
+        let coder = row.coder().ok_or(Kind::NoForm.at(spot.at))?;
         if spot.edge.raw + spot.raw + row.word_bytes() > MOST_RAW {
-            return Err(Fault {
-                kind: Kind::OverLimit,
-                place: spot.at,
-            });
+            return Err(Kind::OverLimit.at(spot.at));
         }
-        let put = match coder.put(row.memory(), word, buffer, spot.at) {
-            Ok(put) => put,
-            Err(fault) => return Err(fault),
-        };
+        let put = coder.put(row.memory(), word, buffer, spot.at)?;
         table[spot.channel] = row.remembering(put.memory);
         self.spot = moved_on(spot, &row, put.len);
         Ok(put.len)

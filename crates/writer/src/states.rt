@@ -1,10 +1,11 @@
 // A writer is between sections, inside one, or at its end. Each state is moved into the call that ends it.
-ghost use Rattle.std.specs.Prelude.{ℕ, ◌+◌, ◌*◌, ◌<◌, ◌≤◌, if◌then◌else◌};
+ghost use Rattle.std.specs.Prelude.{◌≡◌, ◌+◌, ◌*◌, ◌<◌, ◌≤◌, if◌then◌else◌};
 
 use faults::kind::Fault;
 use state::{Edge, Spot};
 
 // Between two sections.
+#[derive(Debug, PartialEq, Eq)]
 pub struct Between {
     pub(crate) edge: Edge,
     ghost limit: { edge.len ≤ 16777216 },
@@ -15,6 +16,7 @@ pub struct Between {
 }
 
 // Inside a section.
+#[derive(Debug, PartialEq, Eq)]
 pub struct Inside {
     pub(crate) spot: Spot,
     ghost limit: { spot.edge.len ≤ 16777216 },
@@ -28,23 +30,29 @@ pub struct Inside {
 }
 
 // At the end of its file, which has so many bytes.
+#[derive(Debug, PartialEq, Eq)]
 pub struct Ended {
     pub(crate) size: usize,
 }
 
-// A writer that may not open a section comes back with the fault.
-pub struct Denied {
-    pub writer: Between,
+// A writer that may not take a step comes back as it was, with the fault.
+#[derive(Debug, PartialEq, Eq)]
+pub struct Refused<W> {
+    pub writer: W,
     pub fault: Fault,
 }
 
-// A writer that may not close its section comes back with the fault.
-pub struct Refused {
-    pub writer: Inside,
-    pub fault: Fault,
+impl<W> Refused<W> {
+    pub(crate) fn new(writer: W, fault: Fault) -> Refused<W>
+        ensures writer { result.writer ≡ writer }
+        ensures fault { result.fault ≡ fault }
+    {
+        Refused { writer, fault }
+    }
 }
 
 // A section was filled: its words take so many bits, and it is still open.
+#[derive(Debug, PartialEq, Eq)]
 pub struct Filled {
     pub writer: Inside,
     pub bits: usize,

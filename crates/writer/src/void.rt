@@ -9,19 +9,18 @@ use crate::states::{Between, Inside, Refused};
 use channel::record::Channel;
 use faults::kind::Kind;
 use fields::clear::clear_from;
-use fields::place::BitPlace;
 
 impl Inside {
     // Drops the open section: zeros from its start on, and all rows at their starting memories.
     // Fault: 1 buffer or table of another length.
-    pub fn void(self, buffer: &mut [u8], table: &mut [Channel]) -> Result<Between, Refused>
+    pub fn void(self, buffer: &mut [u8], table: &mut [Channel]) -> Result<Between, Refused<Inside>>
         ensures answer { closed result ≡ void_result self.spot buffer.old table.old }
         ensures bytes { buffer.new ≡ void_bytes self.spot buffer.old table.old }
         ensures table { table.new ≡ void_table self.spot buffer.old table.old }
     {
         let spot = self.spot;
         if is_strange(spot, buffer.len(), table.len()) {
-            return Err(self.refused(Kind::WrongLength, BitPlace::new(0)));
+            return Err(Refused::new(self, Kind::WrongLength.at_start()));
         }
         clear_from(buffer, spot.edge.at.first_bit());
         rest(table);

@@ -1,7 +1,7 @@
-use Rattle.std.proofs.Common.{refl, arith}
+use Rattle.std.proofs.Common.{refl}
 use Rattle.format.specs.Format.{gap}
 use Rattle.closings.proofs.gap_at.Goals as goal
 
-pub returns : goal.returns
+pub returns-clause-gap : goal.returns-clause-gap
 unfolding gap
-returns c = record { gap = refl; few = omega arith }
+returns-clause-gap c = refl

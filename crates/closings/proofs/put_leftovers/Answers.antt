@@ -31,12 +31,11 @@ from_some false x v e = absurd (none-some (sym e))
 taken : (at len : ℕ) (ls : List ℕ) (x : ℕ) → at ≡ 0 → Some x ≡ cond (is_field at (8 * length ls) len) (Some (field_at ls at (8 * length ls))) None → x ≡ field_at ls 0 (8 * length ls)
 taken at len ls x e h = from_some (is_field at (8 * length ls) len) x (field_at ls at (8 * length ls)) h ∙ ap (λ z. field_at ls z (8 * length ls)) e
 
-pub put_padded-requires : goal.put_padded-requires
-put_padded-requires c =
+pub put_padded-requires-clause-small : goal.put_padded-requires-clause-small
+put_padded-requires-clause-small c =
     let ls : List ℕ = c.args.leftovers.now in
     let v = taken c.new.result.bits (length ls) ls c.in_ok-bytes.bytes c.new.ensures c.in_ok-bytes.ensures in
-    let l = field_lt ls 0 (8 * length ls) in
-    record { few = omega (arith, c.requires.few); small = rw v l; near = omega (arith, c.requires.near) }
+    rw v (field_lt ls 0 (8 * length ls))
 
 pub returns : goal.returns
 returns c =

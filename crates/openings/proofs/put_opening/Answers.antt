@@ -6,20 +6,8 @@ use Rattle.state.specs.declared.Flags.{Flags}
 use Rattle.openings.specs.Openings.{opening}
 use Rattle.openings.specs.Steps.{front}
 use Rattle.openings.proofs.Fronts.{length-any}
-use Rattle.openings.proofs.Whole.{opening-length, shut-rows, shut-room, is_open, put-parts}
+use Rattle.openings.proofs.Whole.{opening-length, shut-room, is_open, put-parts}
 use Rattle.openings.proofs.put_opening.Goals as goal
-
-pub returns-then-not-rows_describable : goal.returns-then-not-rows_describable
-returns-then-not-rows_describable c =
-    let f : List ℕ = c.args.buffer.now in
-    let g : Flags = c.args.flags in
-    let t : List Channel = c.args.table.now in
-    let at : ℕ = c.args.at.bytes in
-    let e = shut-rows g t c.repeats_recorded-recorded.result c.repeats_recorded-recorded.ensures (length f) at (sym c.rows_describable.ensures ∙ c.if-not-rows_describable.true) in
-    record { place = ap (λ z. cond {A = Option ℕ} z (Some (8 * at + length (opening g t))) None) (sym e); bytes = ap (λ z. cond z (put_bits f (8 * at) (opening g t)) f) (sym e) }
-
-pub overflow_add-front_len : goal.overflow_add-front_len
-overflow_add-front_len c = omega (arith, c.front_len.ensures.most, c.rows_len.ensures.most)
 
 pub returns-then-bits-buffer : goal.returns-then-bits-buffer
 returns-then-bits-buffer c =
@@ -27,29 +15,25 @@ returns-then-bits-buffer c =
     let g : Flags = c.args.flags in
     let t : List Channel = c.args.table.now in
     let at : ℕ = c.args.at.bytes in
-    let kept = c.repeats_recorded-recorded.result in
-    let k = c.repeats_recorded-recorded.ensures in
+    let kept = c.records_repeats-recorded.result in
+    let k = c.records_repeats-recorded.ensures in
     let l = opening-length g t kept k c.front_len.result c.rows_len.result c.front_len.ensures.len c.rows_len.ensures.len in
     let e = shut-room g t kept k (length f) at (omega (arith, l, c.bits.ensures, c.plus-end.ensures, c.first_bit-start.ensures)) in
     record { place = ap (λ z. cond {A = Option ℕ} z (Some (8 * at + length (opening g t))) None) (sym e); bytes = ap (λ z. cond z (put_bits f (8 * at) (opening g t)) f) (sym e) }
 
-pub put_front-place-requires : goal.put_front-place-requires
-put_front-place-requires c =
+pub put_front-place-requires-clause-room : goal.put_front-place-requires-clause-room
+put_front-place-requires-clause-room c =
     let n = length-any c.args.flags (length c.args.table.now) 0 in
-    record { few = omega arith; room = omega (arith, n, c.front_len.ensures.len, c.bits.ensures, c.plus-end.ensures, c.first_bit-start.ensures) }
+    omega (arith, n, c.front_len.ensures.len, c.bits.ensures, c.plus-end.ensures, c.first_bit-start.ensures)
 
-pub put_rows-requires : goal.put_rows-requires
-put_rows-requires c =
+pub put_rows-requires-clause-room : goal.put_rows-requires-clause-room
+put_rows-requires-clause-room c =
     let f : List ℕ = c.args.buffer.now in
     let F = front c.args.flags (length c.args.table.now) in
     let n = length-any c.args.flags (length c.args.table.now) 0 in
     let l : length c.put_front-place.new.buffer ≡ length f =
     ap length c.put_front-place.ensures.bytes ∙ length-put_bits f c.first_bit-start.result.bits F (omega (arith, n, c.front_len.ensures.len, c.bits.ensures, c.plus-end.ensures, c.first_bit-start.ensures)) in
-    record {
-      few = omega arith;
-      rows = sym c.rows_describable.ensures ∙ c.if-not-rows_describable.false;
-      room = omega (arith, l, n, c.put_front-place.ensures.place, c.front_len.ensures.len, c.rows_len.ensures.len, c.bits.ensures, c.plus-end.ensures, c.first_bit-start.ensures);
-    }
+    omega (arith, l, n, c.put_front-place.ensures.place, c.front_len.ensures.len, c.rows_len.ensures.len, c.bits.ensures, c.plus-end.ensures, c.first_bit-start.ensures)
 
 pub returns : goal.returns
 returns c =
@@ -57,8 +41,8 @@ returns c =
     let g : Flags = c.args.flags in
     let t : List Channel = c.args.table.now in
     let at : ℕ = c.args.at.bytes in
-    let kept = c.repeats_recorded-recorded.result in
-    let k = c.repeats_recorded-recorded.ensures in
+    let kept = c.records_repeats-recorded.result in
+    let k = c.records_repeats-recorded.ensures in
     let l = opening-length g t kept k c.front_len.result c.rows_len.result c.front_len.ensures.len c.rows_len.ensures.len in
     let s : c.first_bit-start.result.bits ≡ 8 * at = omega (arith, c.bits.ensures, c.plus-end.ensures, c.first_bit-start.ensures) in
     let fit : 8 * at + length (opening g t) ≤ 8 * length f = omega (arith, l, c.bits.ensures, c.plus-end.ensures, c.first_bit-start.ensures) in

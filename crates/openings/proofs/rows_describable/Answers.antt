@@ -1,14 +1,11 @@
-use Rattle.std.proofs.Common.{sym, ◌∙◌}
-use Rattle.openings.proofs.Rows.{row-fails, row-passes, describable-end}
+use Rattle.std.proofs.Common.{◌∙◌, rules}
+use Rattle.std.proofs.lemmas.Iterator.{YieldsList-from_slice}
+use Rattle.std.proofs.lemmas.Iterator.Search.{all_from_yields_List}
+use Rattle.channel.specs.Records.{settings_of}
+use Rattle.openings.proofs.Rows.{is_describable, describable-all}
 use Rattle.openings.proofs.rows_describable.Goals as goal
 
-pub returns-then-not-row_describable : goal.returns-then-not-row_describable
-returns-then-not-row_describable c =
-    sym (row-fails c.args.recorded c.row_describable.result c.args.table.now c.loop-row.row-index c.loop-row-test.true c.row_describable.ensures c.if-not-row_describable.true) ∙ c.loop-row.invariant
-
-pub loop-row-preserved : goal.loop-row-preserved
-loop-row-preserved c =
-    row-passes c.args.recorded c.row_describable.result c.args.table.now c.loop-row.row-index c.loop-row-test.true c.row_describable.ensures c.if-not-row_describable.false ∙ c.loop-row.invariant
-
 pub returns : goal.returns
-returns c = sym (describable-end c.args.recorded c.args.table.now c.loop-row.row-index c.loop-row-test.false) ∙ c.loop-row.invariant
+returns c =
+    all_from_yields_List (λ row. is_describable c.args.recorded (settings_of row)) _ _ c.all.result c.all.ensures.ran (YieldsList-from_slice c.args.table.now cc) (λ x b q k. search rules)
+    ∙ describable-all c.args.recorded c.args.table.now

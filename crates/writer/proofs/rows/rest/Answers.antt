@@ -1,6 +1,6 @@
-use Rattle.std.proofs.Common.{◌<◌, List, ◌++◌, map, length, get_or, drop, set, ap, ◌∙◌, append-nil, arith}
+use Rattle.std.proofs.Common.{◌<◌, List, length, get_or, set, ap, ◌∙◌, arith}
 use Rattle.std.proofs.lemmas.List.Edits.{map_over_more}
-use Rattle.std.proofs.lemmas.List.{take_all, drop_all, get_or_default}
+use Rattle.std.proofs.lemmas.List.{get_or_default}
 use Rattle.channel.specs.declared.record.Channel.{Channel}
 use Rattle.channel.specs.Records.{rested}
 use Rattle.calls.specs.Calls.{no_row}
@@ -12,10 +12,3 @@ loop-row-preserved c =
     let i = c.loop-row.row-index in
     let h : i < length t = omega (arith, c.loop-row-test.true, c.loop-row.auto.table) in
     ap (set t i) c.at_rest.ensures ∙ map_over_more rested c.args.table.now t i (get_or t i no_row) c.loop-row-test.true c.loop-row.invariant (get_or_default t i no_row (get_or t i no_row) h)
-
-pub returns : goal.returns
-returns c =
-    c.loop-row.invariant
-    ∙ ap (λ (z : List Channel). map rested z ++ drop c.loop-row.row-index c.args.table.now) (take_all c.loop-row.row-index c.args.table.now c.loop-row-test.false)
-    ∙ ap (λ (z : List Channel). map rested c.args.table.now ++ z) (drop_all c.loop-row.row-index c.args.table.now c.loop-row-test.false)
-    ∙ append-nil (map rested c.args.table.now)

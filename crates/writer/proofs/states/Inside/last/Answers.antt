@@ -7,18 +7,14 @@ use Rattle.calls.specs.Runs.{Recorded, recording, noted, ending}
 use Rattle.calls.proofs.Law.{ends_recorded}
 use Rattle.writer.proofs.states.Inside.last.Goals as goal
 
-pub returns : goal.returns
-returns c =
+pub returns-clause-recorded : goal.returns-clause-recorded
+returns-clause-recorded c =
     let s : Spot = c.args.self.spot in
     let b : List ℕ = c.args.buffer.now in
     let t : List Channel = c.args.table.now in
     let ls : List ℕ = c.args.leftovers.now in
     let v : ◌≡◌ {A = Result ℕ (Spot × Trouble)} (Ok c.bytes.result) (last_result s b t ls) = search rules in
     let w : c.fill_size.new.buffer ≡ last_bytes s b t ls = search rules in
-    record {
-      answer = v;
-      bytes = w;
-      recorded = λ cs nb n r e.
-          subst (λ z. Recorded n z (recording (noted nb (ending ls)))) (sym w)
-          (ends_recorded s b t ls (Bytes-from ls (λ i. (c.type_inv.leftovers i).fits)) cs nb n r (sym v ∙ e));
-    }
+    λ cs nb n r e.
+    subst (λ z. Recorded n z (recording (noted nb (ending ls)))) (sym w)
+    (ends_recorded s b t ls (Bytes-from ls (λ i. (c.type_inv.leftovers i).fits)) cs nb n r (sym v ∙ e))

@@ -2,9 +2,9 @@ use Rattle.std.proofs.Common.{◌≡◌, ℕ, ◌+◌, ◌*◌, ◌≤◌, true,
 use Rattle.fields.specs.Fields.{is_field}
 use Rattle.bits.specs.Bits.{bits, put_bits}
 use Rattle.calls.proofs.Buffers.{field_put, number_put}
-use Rattle.heads.specs.Heads.{first_bits}
+use Rattle.heads.specs.Heads.{first_bits, flags_in}
 use Rattle.heads.proofs.Sizes.{three-put, four-put}
-use Rattle.heads.proofs.put_first.Goals as goal
+use Rattle.heads.proofs.Head.put_first.Goals as goal
 
 -- the fields of every head, by what each call left
 three : (f a b d : List ℕ) (stamp byte i j k : ℕ) → 56 ≤ 8 * length f → length a ≡ length f → length b ≡ length f → i ≡ 0 → j ≡ 16 → k ≡ 48 →
@@ -17,23 +17,23 @@ three f a b d stamp byte i j k h la lb ei ej ek ea eb ed =
     ∙ ap (λ z. put_bits z 16 (bits 32 stamp)) (field_put f a 0 i 16 0x4c53 (omega arith) (omega arith) ei ea))
     ∙ three-put f stamp byte h
 
-pub returns-then-not-sized : goal.returns-then-not-sized
-returns-then-not-sized c =
-    let e : c.args.sized ≡ false = c.if-not-sized.true in
-    let t = three c.args.buffer.now c.put_field.new.buffer c.put_field-2.new.buffer c.put_field-3.new.buffer c.args.stamp c.args.byte c.new.result.bits c.new-2.result.bits c.new-3.result.bits
+pub returns-then-not-self-clause-bytes : goal.returns-then-not-self-clause-bytes
+returns-then-not-self-clause-bytes c =
+    let stamp : ℕ = c.args.self.now.stamp in
+    let t = three c.args.buffer.now c.put_field.new.buffer c.put_field-2.new.buffer c.put_field-3.new.buffer stamp c.flag_byte.result c.new.result.bits c.new-2.result.bits c.new-3.result.bits
     (omega (arith, c.requires)) c.put_field.auto.buffer (c.put_field-2.auto.buffer ∙ c.put_field.auto.buffer) c.new.ensures c.new-2.ensures c.new-3.ensures c.put_field.ensures.bytes c.put_field-2.ensures.bytes c.put_field-3.ensures.bytes in
-    record { place = sym (ap (λ t. 56 + cond t 32 0) e); bytes = t ∙ sym (ap (λ t. put_bits c.args.buffer.now 0 (first_bits c.args.stamp c.args.byte t)) e) }
+    t ∙ ap (λ z. put_bits c.args.buffer.now 0 (first_bits stamp z false)) c.flag_byte.ensures
+    ∙ sym (ap (λ z. put_bits c.args.buffer.now 0 (first_bits stamp (flags_in c.args.self.now) z)) c.if-not-self.true)
 
-pub returns : goal.returns
-returns c =
+pub returns-clause-bytes : goal.returns-clause-bytes
+returns-clause-bytes c =
     let f : List ℕ = c.args.buffer.now in
-    let e : c.args.sized ≡ true = c.if-not-sized.false in
+    let stamp : ℕ = c.args.self.now.stamp in
+    let e : c.args.self.now.flags.sized ≡ true = c.if-not-self.false in
     let h : 88 ≤ 8 * length f = rw (sym (ap (λ t. 56 + cond t 32 0) e)) c.requires in
     let k : length c.put_field-3.new.buffer ≡ length f = c.put_field-3.auto.buffer ∙ c.put_field-2.auto.buffer ∙ c.put_field.auto.buffer in
-    let t = three f c.put_field.new.buffer c.put_field-2.new.buffer c.put_field-3.new.buffer c.args.stamp c.args.byte c.new.result.bits c.new-2.result.bits c.new-3.result.bits
+    let t = three f c.put_field.new.buffer c.put_field-2.new.buffer c.put_field-3.new.buffer stamp c.flag_byte.result c.new.result.bits c.new-2.result.bits c.new-3.result.bits
     (omega arith) c.put_field.auto.buffer (c.put_field-2.auto.buffer ∙ c.put_field.auto.buffer) c.new.ensures c.new-2.ensures c.new-3.ensures c.put_field.ensures.bytes c.put_field-2.ensures.bytes c.put_field-3.ensures.bytes in
     let u = number_put c.put_field-3.new.buffer c.put_u32.new.buffer 7 c.new-4.result.bytes 0 (omega arith) c.new-4.ensures c.put_u32.ensures.bytes in
-    record {
-      place = sym (ap (λ t. 56 + cond t 32 0) e);
-      bytes = u ∙ ap (λ z. put_bits z 56 (bits 32 0)) t ∙ four-put f c.args.stamp c.args.byte h ∙ sym (ap (λ t. put_bits f 0 (first_bits c.args.stamp c.args.byte t)) e);
-    }
+    u ∙ ap (λ z. put_bits z 56 (bits 32 0)) t ∙ four-put f stamp c.flag_byte.result h ∙ ap (λ z. put_bits f 0 (first_bits stamp z true)) c.flag_byte.ensures
+    ∙ sym (ap (λ z. put_bits f 0 (first_bits stamp (flags_in c.args.self.now) z)) e)

@@ -1,9 +1,13 @@
 -- A file is read in two stages: its head, and what follows the head.
 use Rattle.std.proofs.Common.{◌≡◌, ℕ, ◌+◌, ◌*◌, ◌<◌, ◌≤◌, Bool, true, false, cond, eqb, ltb, leb, List, length, IsErrAnd, Some, None, Ok, Err, Option, Result, sym, refl, ap, ◌∙◌}
+use Rattle.std.specs.Option.{MatchOption}
+use Rattle.std.specs.Bool.{IsTrue}
 use Rattle.std.proofs.lemmas.Bool.{lt-ltb, le-ltb, eq-eqb, ne_eqb}
 use Rattle.bits.specs.Bits.{bits_of}
 use Rattle.faults.specs.Faults as faults
 use Rattle.faults.specs.Faults.{Answer, gives, answered, number_of}
+use Rattle.fields.specs.declared.place.BitPlace.{BitPlace}
+use Rattle.faults.specs.declared.kind.Kind.{Kind}
 use Rattle.faults.specs.declared.kind.Fault.{Fault}
 use Rattle.format.specs.Cells.{File, size, number}
 use Rattle.format.specs.Format.{Outcome, got, fault, next, Format, field, whole, ◌>>=◌, judged, choose, ahead}
@@ -148,3 +152,12 @@ pub handed-on : {T A : Type 0} (value : T → A) (r : Result T Fault) (e : Fault
     faults.fault (number_of e.kind) e.place.bits ≡ o → answered value r ≡ o
 handed-on value (Ok t) e o h d = absurd h
 handed-on value (Err x) e o h d = ap (λ (z : Fault). faults.fault (number_of z.kind) z.place.bits) h ∙ d
+
+-- a fault that was made
+pub fault_stands : {A : Type 0} {r : Fault} {k : Kind} {at : BitPlace} {o : Answer A} → r ≡ record { kind = k; place = at } → faults.fault (number_of k) at.bits ≡ o → faults.fault (number_of r.kind) r.place.bits ≡ o
+fault_stands e h = ap (λ (z : Fault). faults.fault (number_of z.kind) z.place.bits) e ∙ h
+
+-- a test of a number that may be absent
+pub test-agrees : (o : Option ℕ) (v : ℕ) (b : Bool) (P : ℕ → Type 0) → MatchOption o (IsTrue b) P → ((x : ℕ) → P x → b ≡ eqb x v) → b ≡ agrees o v
+test-agrees None v b P h each = h
+test-agrees (Some x) v b P h each = each x h

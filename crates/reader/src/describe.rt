@@ -20,7 +20,7 @@ use reading::taken::Taken;
 use state::Flags;
 
 // How many channels a section has, and its raw size.
-#[derive(Clone, Copy)]
+#[derive(Clone, Copy, Debug, PartialEq, Eq)]
 pub struct Described {
     pub rows: usize,
     pub raw: u32,
@@ -32,10 +32,9 @@ fn find_section(
     at: BitPlace,
     flags: Flags,
     section: usize,
-    table: &mut [Channel],
+    table: &mut [Channel; MOST_CHANNELS],
 ) -> Result<Taken<Opening>, Fault>
-    requires table { length table.old ≡ 32 }
-    requires there { HasSection ((chain (calls.flags flags) 64 0).reads (bits_in source) at.bits 0) section }
+    requires { HasSection ((chain (calls.flags flags) 64 0).reads (bits_in source) at.bits 0) section }
     ensures { Found (section_in ((chain (calls.flags flags) 64 0).reads (bits_in source.entry) at.bits 0) section) table.new result }
 {
     let mut start = at;
@@ -43,7 +42,7 @@ fn find_section(
     for before in 0..section {
         let passed = pass_section(source, start, flags, raw, true, table)?;
         raw += passed.value.raw;
-        start = passed.at;
+        start = passed.end.at;
     }
     take_opening(source, start, flags, raw, table)
 }
@@ -57,22 +56,16 @@ pub fn describe(file: &[u8], section: usize, table: &mut [Channel]) -> Result<De
 {
     let totals = check(file)?;
     if section >= totals.sections as usize {
-        return Err(Fault {
-            kind: Kind::NoSection,
-            place: BitPlace::new(0),
-        });
+        return Err(Kind::NoSection.at_start());
     }
     let source = Source { bytes: file };
     let head = source.take_head()?;
     let flags = flags_in(head.value.flags);
     let mut rows = [Channel::plain(); MOST_CHANNELS];
-    let found = find_section(source, head.at, flags, section, &mut rows)?;
+    let found = find_section(source, head.end.at, flags, section, &mut rows)?;
     let count = found.value.rows;
     if count > table.len() {
-        return Err(Fault {
-            kind: Kind::OutputTooShort,
-            place: BitPlace::new(0),
-        });
+        return Err(Kind::OutputTooShort.at_start());
     }
     table[..count].copy_from_slice(&rows[..count]);
     Ok(Described {

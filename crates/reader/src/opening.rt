@@ -1,7 +1,7 @@
 // The head of a section, as it is read.
 
 // The raw size, the pointer if there is one, and how many rows of a table the channels take.
-#[derive(Clone, Copy)]
+#[derive(Clone, Copy, Debug, PartialEq, Eq)]
 pub(crate) struct Opening {
     pub(crate) raw: u32,
     pub(crate) pointer: Option<u32>,

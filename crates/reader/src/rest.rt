@@ -1,5 +1,5 @@
 // Reading a section whose words are not kept.
-ghost use Rattle.std.specs.Prelude.{◌≡◌, ℕ, ◌≤◌, true, length};
+ghost use Rattle.std.specs.Prelude.{◌≡◌, ℕ, ◌≤◌, true};
 ghost use Rattle.format.specs.Format.{Format};
 ghost use Rattle.layout.specs.Slim.{piece};
 ghost use Rattle.calls.specs.Calls as calls;
@@ -14,8 +14,9 @@ use crate::outline::Outline;
 use crate::sections::take_opening;
 use channel::record::Channel;
 use faults::kind::{Fault, Kind};
-use fields::place::BitPlace;
+use fields::place::{BitPlace, Cursor};
 use frames::count_words;
+use limits::MOST_CHANNELS;
 use reading::source::Source;
 use reading::taken::Taken;
 use state::Flags;
@@ -24,42 +25,28 @@ use words::pass::pass_words;
 // Reads what follows the head of a section; another section may follow where there is room for it.
 fn pass_rest(
     source: Source,
-    at: BitPlace,
-    last: BitPlace,
-    opening: Opening,
+    opening: Taken<Opening>,
     room: bool,
-    table: &[Channel],
+    table: &[Channel; MOST_CHANNELS],
 ) -> Result<Taken<Outline>, Fault>
-    requires rows { opening.rows ≤ length table.now }
-    requires countable { countable (rows_in table.now opening.rows) ≡ true }
-    ensures { told (outline_in (bits_in source.entry)) result ≡ seen outline ((rest room (head_in table.now opening)).reads (bits_in source.entry) at.bits last.bits) }
+    requires rows { opening.value.rows ≤ 32 }
+    requires countable { countable (rows_in table.now opening.value.rows) ≡ true }
+    ensures { told (outline_in (bits_in source.entry)) result ≡ seen outline ((rest room (head_in table.now opening.value)).reads (bits_in source.entry) opening.end.at.bits opening.end.last.bits) }
 {
-    let count = opening.rows;
-    let rows = &table[..count];
-    let Some(words) = count_words(rows, opening.raw) else {
-        return Err(Fault {
-            kind: Kind::PartialWord,
-            place: last,
-        });
-    };
-    let passed = pass_words(source.bytes, at, last, rows, words)?;
+    let Opening { raw, pointer, rows } = opening.value;
+    let Cursor { at, last } = opening.end;
+    let words = count_words(&table[..rows], raw).ok_or(Kind::PartialWord.at(last))?;
+    let passed = pass_words(source.bytes, at, last, &table[..rows], words)?;
     let closing = take_end(source, passed.at, room)?;
-    let padding = take_padding(source, closing.at, closing.last)?;
-    if !names_next(opening.pointer, closing.value, padding.at) {
-        return Err(Fault {
-            kind: Kind::WrongPointer,
-            place: padding.last,
-        });
+    let padding = take_padding(source, closing.end)?;
+    if !names_next(pointer, closing.value, padding.end.at) {
+        return Err(Kind::WrongPointer.at(padding.end.last));
     }
-    Ok(Taken {
-        value: Outline {
-            raw: opening.raw,
-            words,
-            closing: closing.value,
-        },
-        at: padding.at,
-        last: padding.last,
-    })
+    Ok(padding.with(Outline {
+        raw,
+        words,
+        closing: closing.value,
+    }))
 }
 
 // Reads a section after so many raw bytes; its channels go to the first rows of a table.
@@ -69,12 +56,11 @@ pub(crate) fn pass_section(
     flags: Flags,
     total: u32,
     room: bool,
-    table: &mut [Channel],
+    table: &mut [Channel; MOST_CHANNELS],
 ) -> Result<Taken<Outline>, Fault>
-    requires few { total ≤ 16777216 }
-    requires table { length table.old ≡ 32 }
+    requires { total ≤ 16777216 }
     ensures { (l : ℕ) → told (outline_in (bits_in source.entry)) result ≡ seen outline ((piece (calls.flags flags) room total).reads (bits_in source.entry) at.bits l) }
 {
     let opening = take_opening(source, at, flags, total, table)?;
-    pass_rest(source, opening.at, opening.last, opening.value, room, table)
+    pass_rest(source, opening, room, table)
 }

@@ -17,7 +17,7 @@ use channel::record::Channel;
 use faults::kind::{Fault, Kind};
 use fields::bytes::are_bytes;
 use fields::field::{put_field, window_at};
-use fields::place::{BitPlace, BytePlace};
+use fields::place::{BitPlace, BytePlace, Cursor};
 use frames::count_words;
 use limits::{MOST_CHANNELS, MOST_SECTIONS};
 use reading::block::Block;
@@ -43,40 +43,36 @@ fn write_section(
     at: BitPlace,
     flags: Flags,
     total: u32,
-    table: &mut [Channel],
+    table: &mut [Channel; MOST_CHANNELS],
     out: &mut [u8],
 )
-    requires few { total ≤ 16777216 }
-    requires table { length table.old ≡ 32 }
+    requires { total ≤ 16777216 }
     ensures { (room : Bool) (l : ℕ) (x : Piece) (q m : ℕ) → (piece (calls.flags flags) room total).reads (bits_in source.entry) at.bits l ≡ got x q m → total + raw_size x.section ≤ length out.old → out.new ≡ put_bits out.old (8 * total) (bits_of (section_bytes x.section)) }
 {
     let Ok(opening) = take_opening(source, at, flags, total, table) else {
         return;
     };
-    let count = opening.value.rows;
-    let rows = &table[..count];
+    let rows = &table[..opening.value.rows];
     if let Some(words) = count_words(rows, opening.value.raw) {
         let from = BytePlace::new(total as usize);
-        spread_words(source.bytes, opening.at, rows, words, out, from);
+        spread_words(source.bytes, opening.end.at, rows, words, out, from);
     }
 }
 
 // Writes the raw bytes of all sections and behind them the leftovers, and answers their number.
 fn write_sections(
     source: Source,
-    at: BitPlace,
-    last: BitPlace,
+    from: Cursor,
     flags: Flags,
-    table: &mut [Channel],
+    table: &mut [Channel; MOST_CHANNELS],
     out: &mut [u8],
 ) -> Result<usize, Fault>
-    requires table { length table.old ≡ 32 }
-    requires room { RoomFor ((chain (calls.flags flags) 64 0).reads (bits_in source) at.bits last.bits) (length out.old) }
-    ensures answer { answered (λ n. n) result ≡ body_answer ((chain (calls.flags flags) 64 0).reads (bits_in source.entry) at.bits last.bits) }
-    ensures bytes { out.new ≡ body_left ((chain (calls.flags flags) 64 0).reads (bits_in source.entry) at.bits last.bits) out.old }
+    requires { RoomFor ((chain (calls.flags flags) 64 0).reads (bits_in source) from.at.bits from.last.bits) (length out.old) }
+    ensures answer { answered (λ n. n) result ≡ body_answer ((chain (calls.flags flags) 64 0).reads (bits_in source.entry) from.at.bits from.last.bits) }
+    ensures bytes { out.new ≡ body_left ((chain (calls.flags flags) 64 0).reads (bits_in source.entry) from.at.bits from.last.bits) out.old }
 {
     are_bytes(out);
-    let mut end = at;
+    let mut end = from.at;
     let mut raw = 0;
     for before in 0..MOST_SECTIONS {
         let room = before + 1 < MOST_SECTIONS;
@@ -87,12 +83,9 @@ fn write_sections(
             write_leftovers(source, leftovers, out, raw);
             return Ok(raw as usize + leftovers.len);
         }
-        end = section.at;
+        end = section.end.at;
     }
-    Err(Fault {
-        kind: Kind::OverLimit,
-        place: last,
-    })
+    Err(Kind::OverLimit.at(from.last))
 }
 
 // Checks a whole file, and then writes the raw bytes of all sections, one after the other, and behind them the leftovers to the front of `out`.
@@ -104,14 +97,11 @@ pub fn unpack(file: &[u8], out: &mut [u8]) -> Result<usize, Fault>
 {
     let totals = check(file)?;
     if totals.raw as usize + totals.leftovers > out.len() {
-        return Err(Fault {
-            kind: Kind::OutputTooShort,
-            place: BitPlace::new(0),
-        });
+        return Err(Kind::OutputTooShort.at_start());
     }
     let source = Source { bytes: file };
     let head = source.take_head()?;
     let flags = flags_in(head.value.flags);
     let mut table = [Channel::plain(); MOST_CHANNELS];
-    write_sections(source, head.at, head.last, flags, &mut table, out)
+    write_sections(source, head.end, flags, &mut table, out)
 }

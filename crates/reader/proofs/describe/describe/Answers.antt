@@ -1,4 +1,4 @@
-use Rattle.std.proofs.Common.{◌≡◌, ℕ, List, length, refl, ap, ◌∙◌, arith, length-take}
+use Rattle.std.proofs.Common.{◌≡◌, ℕ, List, length, ap, ◌∙◌, arith, length-take}
 use Rattle.bits.specs.Bits.{bits_of}
 use Rattle.faults.specs.Faults as faults
 use Rattle.faults.specs.Faults.{Answer, gives}
@@ -9,6 +9,7 @@ use Rattle.channel.specs.declared.record.Channel.{Channel}
 use Rattle.reading.specs.Heads.{head_in}
 use Rattle.reader.specs.Describing.{section_in, described, sizes, filled}
 use Rattle.reader.proofs.Describing.{checked-short, head-again, sought-there, sought-short, sought-on, sizes-of, rows-filled, few-rows, holds_section}
+use Rattle.reader.proofs.Recordings.{fault_stands}
 use Rattle.reader.proofs.describe.describe.Goals as goal
 
 pub invariant_of-source : goal.invariant_of-source
@@ -21,11 +22,8 @@ pub find_section-requires : goal.find_section-requires
 find_section-requires c =
     let f : List ℕ = c.args.file.now in
     let x = c.in_ok-head.head in
-    record {
-      table = refl;
-      there = sought-there f c.in_ok-totals.totals c.in_ok-totals.ensures.answer (head_in f x.value) x.at.bits x.last.bits c.in_ok-head.ensures.head
-          (flags c.flags_in-flags.result) (ap flags c.flags_in-flags.ensures) c.args.section c.if-section-totals.false;
-    }
+    sought-there f c.in_ok-totals.totals c.in_ok-totals.ensures.answer (head_in f x.value) x.end.at.bits x.end.last.bits c.in_ok-head.ensures.head
+    (flags c.flags_in-flags.result) (ap flags c.flags_in-flags.ensures) c.args.section c.if-section-totals.false
 
 pub returns-then-count-table : goal.returns-then-count-table
 returns-then-count-table c =
@@ -34,11 +32,11 @@ returns-then-count-table c =
     let x = c.in_ok-head.head in
     let (raw, many, held) = c.in_ok-found.ensures in
     let short : faults.fault 2 0 ≡ described (read f) c.args.section (length t) =
-    sought-short f c.in_ok-totals.totals c.in_ok-totals.ensures.answer (head_in f x.value) x.at.bits x.last.bits c.in_ok-head.ensures.head
+    sought-short f c.in_ok-totals.totals c.in_ok-totals.ensures.answer (head_in f x.value) x.end.at.bits x.end.last.bits c.in_ok-head.ensures.head
     (flags c.flags_in-flags.result) (ap flags c.flags_in-flags.ensures) c.args.section c.if-section-totals.false (length t) (omega (arith, many, c.if-count-table.true)) in
     let same = ap (λ (a : Answer Section). filled a t) short in
     record {
-      answer = ap (λ (p : ℕ). faults.fault 2 p) c.new-then-count-table.ensures ∙ ap sizes short;
+      answer = fault_stands c.at_start-then-count-table.ensures (ap sizes short);
       table = same;
       accepted = holds_section f c.args.section t t same;
     }
@@ -65,9 +63,9 @@ returns c =
     let x = c.in_ok-head.head in
     let n : ℕ = c.in_ok-found.found.value.rows in
     let (raw, many, held) = c.in_ok-found.ensures in
-    let s : Section = section_in ((chain (flags c.flags_in-flags.result) 64 0).reads (bits_of f) x.at.bits 0) c.args.section in
+    let s : Section = section_in ((chain (flags c.flags_in-flags.result) 64 0).reads (bits_of f) x.end.at.bits 0) c.args.section in
     let on : gives s ≡ described (read f) c.args.section (length t) =
-    sought-on f c.in_ok-totals.totals c.in_ok-totals.ensures.answer (head_in f x.value) x.at.bits x.last.bits c.in_ok-head.ensures.head
+    sought-on f c.in_ok-totals.totals c.in_ok-totals.ensures.answer (head_in f x.value) x.end.at.bits x.end.last.bits c.in_ok-head.ensures.head
     (flags c.flags_in-flags.result) (ap flags c.flags_in-flags.ensures) c.args.section c.if-section-totals.false (length t) (omega (arith, many, c.if-count-table.false)) in
     let same = rows-filled s _ n t c.copy_from_slice.new.self on many (c.copy_from_slice.ensures.after ∙ held) in
     record {

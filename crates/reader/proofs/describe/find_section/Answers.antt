@@ -22,7 +22,7 @@ overflow_add-raw c =
     let s = c.in_ok-passed.passed in
     let (there, _, _, _) = c.loop-before.invariant in
     let (_, _, most) = passed_on (flags c.args.flags) f c.loop-before.before c.loop-before.raw c.loop-before.start.bits c.args.section c.loop-before-test.true there
-    s.value.raw s.value.words (closing_of f s.value.closing) s.at.bits s.last.bits (c.in_ok-passed.ensures 0) in
+    s.value.raw s.value.words (closing_of f s.value.closing) s.end.at.bits s.end.last.bits (c.in_ok-passed.ensures 0) in
     omega (arith, most)
 
 pub loop-before-preserved : goal.loop-before-preserved
@@ -31,7 +31,7 @@ loop-before-preserved c =
     let s = c.in_ok-passed.passed in
     let (there, same, _, _) = c.loop-before.invariant in
     let (a, b, most) = passed_on (flags c.args.flags) f c.loop-before.before c.loop-before.raw c.loop-before.start.bits c.args.section c.loop-before-test.true there
-    s.value.raw s.value.words (closing_of f s.value.closing) s.at.bits s.last.bits (c.in_ok-passed.ensures 0) in
+    s.value.raw s.value.words (closing_of f s.value.closing) s.end.at.bits s.end.last.bits (c.in_ok-passed.ensures 0) in
     (a, b ∙ same, most, omega (arith, c.loop-before-test.true))
 
 pub returns : goal.returns

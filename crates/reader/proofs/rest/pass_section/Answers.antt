@@ -1,4 +1,4 @@
-use Rattle.std.proofs.Common.{List, sym}
+use Rattle.std.proofs.Common.{List, sym, arith}
 use Rattle.bits.specs.Bits.{bits_of}
 use Rattle.format.specs.Cells.{File}
 use Rattle.calls.specs.Calls.{flags}
@@ -22,8 +22,8 @@ pass_rest-requires c =
     let t : List Channel = c.take_opening.new.table in
     let o = c.in_ok-opening.opening in
     record {
-      rows = c.in_ok-opening.ensures.rest.0;
-      countable = (head-sound (flags c.args.flags) c.args.total f c.args.at.bits 0 (head_in t o.value) o.at.bits o.last.bits (sym (c.in_ok-opening.ensures.head 0))).0;
+      rows = omega (arith, c.in_ok-opening.ensures.rest.0, c.take_opening.auto.table);
+      countable = (head-sound (flags c.args.flags) c.args.total f c.args.at.bits 0 (head_in t o.value) o.end.at.bits o.end.last.bits (sym (c.in_ok-opening.ensures.head 0))).0;
     }
 
 pub returns : goal.returns

@@ -1,6 +1,7 @@
 use Rattle.std.proofs.Common.{arith}
 use Rattle.bits.specs.Bits.{bits_of}
 use Rattle.format.specs.Cells.{File}
+use Rattle.reading.proofs.Looks.{fault-is}
 use Rattle.reading.proofs.Steps.{passed}
 use Rattle.reader.proofs.Heads.{raw-not, raw-zero, raw-over, raw-on}
 use Rattle.reader.proofs.sections.take_raw.Goals as goal
@@ -11,11 +12,12 @@ returns-in_err-raw c l =
     passed (λ v. v) c.from_residual.result c.in_err-raw.field-0.0 _ c.from_residual.ensures.1 (raw-not c.args.total f c.args.at.bits l (c.in_err-raw.ensures l))
 
 pub returns-then-raw-eq0 : goal.returns-then-raw-eq0
-returns-then-raw-eq0 c l = raw-zero c.args.total (bits_of c.args.source.bytes.now) c.args.at.bits l (c.in_ok-raw.ensures l) c.if-raw-eq0.true
+returns-then-raw-eq0 c l = fault-is c.at.result _ c.args.at _ c.at.ensures (raw-zero c.args.total (bits_of c.args.source.bytes.now) c.args.at.bits l (c.in_ok-raw.ensures l) c.if-raw-eq0.true)
 
 pub returns-then-raw-total : goal.returns-then-raw-total
 returns-then-raw-total c l =
-    raw-over c.args.total (bits_of c.args.source.bytes.now) c.args.at.bits l (c.in_ok-raw.ensures l) (omega (arith, c.if-raw-eq0.false)) (omega (arith, c.if-raw-total.true, c.requires))
+    fault-is c.at-then-raw-total.result _ c.in_ok-raw.raw.end.last _ c.at-then-raw-total.ensures
+    (raw-over c.args.total (bits_of c.args.source.bytes.now) c.args.at.bits l (c.in_ok-raw.ensures l) (omega (arith, c.if-raw-eq0.false)) (omega (arith, c.if-raw-total.true, c.requires)))
 
 pub returns : goal.returns
 returns c l =

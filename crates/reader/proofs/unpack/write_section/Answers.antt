@@ -14,11 +14,11 @@ returns-in-Some c room l x q m e fits =
     let f : List ℕ = c.args.source.bytes.now in
     let o = c.in-Ok.opening in
     let h : Head = head_in c.take_opening.new.table o.value in
-    c.spread_words.ensures.bytes ∙ ap (spread_bytes h.channels f o.at.bits c.in-Some.words c.args.out.now) c.new-from.ensures
-    ∙ section-spread (flags c.args.flags) room c.args.total f c.args.at.bits l x q m e h o.at.bits o.last.bits (c.in-Ok.ensures.head l) c.in-Some.words c.args.out.now c.args.source.small c.in-Some.ensures fits
+    c.spread_words.ensures.bytes ∙ ap (spread_bytes h.channels f o.end.at.bits c.in-Some.words c.args.out.now) c.new-from.ensures
+    ∙ section-spread (flags c.args.flags) room c.args.total f c.args.at.bits l x q m e h o.end.at.bits o.end.last.bits (c.in-Ok.ensures.head l) c.in-Some.words c.args.out.now c.args.source.small c.in-Some.ensures fits
 
 pub returns-in_default-count_words : goal.returns-in_default-count_words
 returns-in_default-count_words c room l x q m e fits =
     let o = c.in-Ok.opening in
     let h : Head = head_in c.take_opening.new.table o.value in
-    absurd (section-has-words (flags c.args.flags) room c.args.total c.args.source.bytes.now c.args.at.bits l x q m e h o.at.bits o.last.bits (c.in-Ok.ensures.head l) c.in_default-count_words.ensures)
+    absurd (section-has-words (flags c.args.flags) room c.args.total c.args.source.bytes.now c.args.at.bits l x q m e h o.end.at.bits o.end.last.bits (c.in-Ok.ensures.head l) c.in_default-count_words.ensures)

@@ -10,7 +10,7 @@ use Rattle.reader.proofs.unpack.write_sections.Goals as goal
 
 pub loop-before-init : goal.loop-before-init
 loop-before-init c =
-    (write-start (flags c.args.flags) (bits_of c.args.source.bytes.now) c.args.out.now c.args.at.bits c.args.last.bits c.requires.room c.are_bytes.ensures, omega arith, omega arith)
+    (write-start (flags c.args.flags) (bits_of c.args.source.bytes.now) c.args.out.now c.args.from.at.bits c.args.from.last.bits c.requires c.are_bytes.ensures, omega arith, omega arith)
 
 pub returns-in_err-section : goal.returns-in_err-section
 returns-in_err-section c =
@@ -24,7 +24,7 @@ overflow_add-raw c =
     let f : File = bits_of c.args.source.bytes.now in
     let g : slim.Flags = flags c.args.flags in
     let s = c.in_ok-section.section in
-    let (a, _) = pass-bounds g f c.loop-before.before 0 c.loop-before.raw c.loop-before.end.bits 0 _ c.loop-before-test.true refl s.value.raw s.value.words (closing_of f s.value.closing) s.at.bits s.last.bits (c.in_ok-section.ensures 0) in
+    let (a, _) = pass-bounds g f c.loop-before.before 0 c.loop-before.raw c.loop-before.end.bits 0 _ c.loop-before-test.true refl s.value.raw s.value.words (closing_of f s.value.closing) s.end.at.bits s.end.last.bits (c.in_ok-section.ensures 0) in
     omega (arith, a)
 
 pub write_leftovers-requires : goal.write_leftovers-requires
@@ -34,9 +34,9 @@ write_leftovers-requires c =
     let (w, _, _) = c.loop-before.invariant in
     let s = c.in_ok-section.section in
     record {
-      few = ended-few g f _ _ c.loop-before.before c.loop-before.raw c.loop-before.end.bits _ w _ c.loop-before-test.true refl s.value.raw s.value.words s.value.closing s.at.bits s.last.bits (c.in_ok-section.ensures w.last)
+      few = ended-few g f _ _ c.loop-before.before c.loop-before.raw c.loop-before.end.bits _ w _ c.loop-before-test.true refl s.value.raw s.value.words s.value.closing s.end.at.bits s.end.last.bits (c.in_ok-section.ensures w.last)
           c.write_section.new.out c.write_section.ensures c.in-Ended.leftovers c.in-Ended.is;
-      room = ended-room g f _ _ c.loop-before.before c.loop-before.raw c.loop-before.end.bits _ w _ c.loop-before-test.true refl s.value.raw s.value.words s.value.closing s.at.bits s.last.bits (c.in_ok-section.ensures w.last)
+      room = ended-room g f _ _ c.loop-before.before c.loop-before.raw c.loop-before.end.bits _ w _ c.loop-before-test.true refl s.value.raw s.value.words s.value.closing s.end.at.bits s.end.last.bits (c.in_ok-section.ensures w.last)
           c.write_section.new.out c.write_section.ensures c.in-Ended.leftovers c.in-Ended.is;
     }
 
@@ -46,8 +46,8 @@ overflow_add-result c =
     let g : slim.Flags = flags c.args.flags in
     let (w, _, _) = c.loop-before.invariant in
     let s = c.in_ok-section.section in
-    let (a, _) = pass-bounds g f c.loop-before.before 0 c.loop-before.raw c.loop-before.end.bits 0 _ c.loop-before-test.true refl s.value.raw s.value.words (closing_of f s.value.closing) s.at.bits s.last.bits (c.in_ok-section.ensures 0) in
-    let few = ended-few g f _ _ c.loop-before.before c.loop-before.raw c.loop-before.end.bits _ w _ c.loop-before-test.true refl s.value.raw s.value.words s.value.closing s.at.bits s.last.bits (c.in_ok-section.ensures w.last)
+    let (a, _) = pass-bounds g f c.loop-before.before 0 c.loop-before.raw c.loop-before.end.bits 0 _ c.loop-before-test.true refl s.value.raw s.value.words (closing_of f s.value.closing) s.end.at.bits s.end.last.bits (c.in_ok-section.ensures 0) in
+    let few = ended-few g f _ _ c.loop-before.before c.loop-before.raw c.loop-before.end.bits _ w _ c.loop-before-test.true refl s.value.raw s.value.words s.value.closing s.end.at.bits s.end.last.bits (c.in_ok-section.ensures w.last)
     c.write_section.new.out c.write_section.ensures c.in-Ended.leftovers c.in-Ended.is in
     omega (arith, a, few)
 
@@ -58,9 +58,9 @@ returns-in-Ended c =
     let (w, _, _) = c.loop-before.invariant in
     let s = c.in_ok-section.section in
     record {
-      answer = ended-answer g f _ _ c.loop-before.before c.loop-before.raw c.loop-before.end.bits _ w _ c.loop-before-test.true refl s.value.raw s.value.words s.value.closing s.at.bits s.last.bits (c.in_ok-section.ensures w.last)
+      answer = ended-answer g f _ _ c.loop-before.before c.loop-before.raw c.loop-before.end.bits _ w _ c.loop-before-test.true refl s.value.raw s.value.words s.value.closing s.end.at.bits s.end.last.bits (c.in_ok-section.ensures w.last)
           c.write_section.new.out c.write_section.ensures c.in-Ended.leftovers c.in-Ended.is;
-      bytes = ended-bytes g f _ _ c.loop-before.before c.loop-before.raw c.loop-before.end.bits _ w _ c.loop-before-test.true refl s.value.raw s.value.words s.value.closing s.at.bits s.last.bits (c.in_ok-section.ensures w.last)
+      bytes = ended-bytes g f _ _ c.loop-before.before c.loop-before.raw c.loop-before.end.bits _ w _ c.loop-before-test.true refl s.value.raw s.value.words s.value.closing s.end.at.bits s.end.last.bits (c.in_ok-section.ensures w.last)
           c.write_section.new.out c.write_section.ensures c.in-Ended.leftovers c.in-Ended.is c.write_leftovers.new.out c.are_bytes.ensures c.write_leftovers.ensures;
     }
 
@@ -70,8 +70,8 @@ loop-before-preserved c =
     let g : slim.Flags = flags c.args.flags in
     let (w, _, _) = c.loop-before.invariant in
     let s = c.in_ok-section.section in
-    let (a, _) = pass-bounds g f c.loop-before.before 0 c.loop-before.raw c.loop-before.end.bits 0 _ c.loop-before-test.true refl s.value.raw s.value.words (closing_of f s.value.closing) s.at.bits s.last.bits (c.in_ok-section.ensures 0) in (
-      write-another g f _ _ c.loop-before.before c.loop-before.raw c.loop-before.end.bits _ w _ c.loop-before-test.true refl s.value.raw s.value.words s.value.closing s.at.bits s.last.bits (c.in_ok-section.ensures w.last)
+    let (a, _) = pass-bounds g f c.loop-before.before 0 c.loop-before.raw c.loop-before.end.bits 0 _ c.loop-before-test.true refl s.value.raw s.value.words (closing_of f s.value.closing) s.end.at.bits s.end.last.bits (c.in_ok-section.ensures 0) in (
+      write-another g f _ _ c.loop-before.before c.loop-before.raw c.loop-before.end.bits _ w _ c.loop-before-test.true refl s.value.raw s.value.words s.value.closing s.end.at.bits s.end.last.bits (c.in_ok-section.ensures w.last)
           c.write_section.new.out c.write_section.ensures c.in_default.is,
       a,
       omega (arith, c.loop-before-test.true),

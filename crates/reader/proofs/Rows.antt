@@ -1,5 +1,5 @@
 -- Rows that are read one after the other into a table.
-use Rattle.std.proofs.Common.{◌≡◌, ℕ, ◌+◌, ◌-◌, ◌<◌, Bool, List, [], ◌∷◌, ◌++◌, map, length, take, set, IfOk, IsErrAnd, Ok, Err, Result, sym, refl, ap, ◌∙◌, arith, length-append}
+use Rattle.std.proofs.Common.{◌≡◌, ℕ, ◌+◌, ◌-◌, ◌<◌, ◌≤◌, Bool, List, [], ◌∷◌, ◌++◌, map, length, take, set, IfOk, IsErrAnd, Ok, Err, Result, sym, refl, ap, ◌∙◌, arith, length-append}
 use Rattle.std.proofs.lemmas.List.{map-append, take_more_set, take-append-le}
 use Rattle.faults.specs.declared.kind.Fault.{Fault}
 use Rattle.format.specs.Cells.{File}
@@ -71,3 +71,7 @@ rows-told rows more (Err e) h = refl
 pub rows-rest : (rows more : List Channel) (r : Result (Taken ℕ) Fault) → IfOk r (λ t. t.value ≡ length rows) → AtRest (λ n. n) rows r → AtRest (λ n. n) (rows ++ more) r
 rows-rest rows more (Ok t) h (fits, same) = (omega (arith, fits, length-append rows more), rw (rows_front rows more t.value h) same)
 rows-rest rows more (Err e) h d = tt
+
+pub rows_most : (rows : List Channel) (r : Result (Taken ℕ) Fault) → length rows ≤ 32 → IfOk r (λ t. t.value ≡ length rows) → IfOk r (λ t. t.value ≤ 32)
+rows_most rows (Ok t) h e = omega (arith, h, e)
+rows_most rows (Err e) h d = tt

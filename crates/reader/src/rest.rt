@@ -1,25 +1,24 @@
 // Reading a section whose words are not kept.
-ghost use Rattle.std.specs.Prelude.{◌≡◌, ℕ, ◌≤◌, true};
+ghost use Rattle.std.specs.Prelude.{◌≡◌, ℕ, true, IfOk};
+ghost use Rattle.bits.specs.Bits.{bits_of};
 ghost use Rattle.format.specs.Format.{Format};
-ghost use Rattle.layout.specs.Slim.{piece};
-ghost use Rattle.calls.specs.Calls as calls;
 ghost use Rattle.frames.specs.Frames.{countable};
 ghost use Rattle.reading.specs.Told.{bits_in, told};
+ghost use Rattle.reader.specs.Walks.{standing, stepped, next_section, moved};
 ghost use Rattle.reader.specs.Sections.{rest, rows_in, head_in};
 ghost use Rattle.reader.specs.Counts.{seen, outline, outline_in};
 
 use crate::ends::{names_next, take_end, take_padding};
 use crate::opening::Opening;
 use crate::outline::Outline;
-use crate::sections::take_opening;
+use crate::walk::Walk;
 use channel::record::Channel;
 use faults::kind::{Fault, Kind};
 use fields::place::{BitPlace, Cursor};
 use frames::count_words;
-use limits::MOST_CHANNELS;
+use limits::{MOST_CHANNELS, MOST_SECTIONS};
 use reading::source::Source;
 use reading::taken::Taken;
-use state::Flags;
 use words::pass::pass_words;
 
 // Reads what follows the head of a section; another section may follow where there is room for it.
@@ -29,8 +28,7 @@ fn pass_rest(
     room: bool,
     table: &[Channel; MOST_CHANNELS],
 ) -> Result<Taken<Outline>, Fault>
-    requires rows { opening.value.rows ≤ 32 }
-    requires countable { countable (rows_in table.now opening.value.rows) ≡ true }
+    requires { countable (rows_in table.now opening.value.rows) ≡ true }
     ensures { told (outline_in (bits_in source.entry)) result ≡ seen outline ((rest room (head_in table.now opening.value)).reads (bits_in source.entry) opening.end.at.bits opening.end.last.bits) }
 {
     let Opening { raw, pointer, rows } = opening.value;
@@ -49,18 +47,21 @@ fn pass_rest(
     }))
 }
 
-// Reads a section after so many raw bytes; its channels go to the first rows of a table.
-pub(crate) fn pass_section(
-    source: Source,
-    at: BitPlace,
-    flags: Flags,
-    total: u32,
-    room: bool,
-    table: &mut [Channel; MOST_CHANNELS],
-) -> Result<Taken<Outline>, Fault>
-    requires { total ≤ 16777216 }
-    ensures { (l : ℕ) → told (outline_in (bits_in source.entry)) result ≡ seen outline ((piece (calls.flags flags) room total).reads (bits_in source.entry) at.bits l) }
-{
-    let opening = take_opening(source, at, flags, total, table)?;
-    pass_rest(source, opening, room, table)
+impl<'a> Walk<'a> {
+    // Passes the next section. Fault 9 behind 64 of them.
+    pub(crate) fn pass(&mut self) -> Result<Outline, Fault>
+        ensures section { (l : ℕ) → stepped (outline_in (bits_of (standing self.old).file)) (standing self.new) result ≡ next_section (standing self.old) l }
+        ensures moves { IfOk result (λ o. standing self.new ≡ moved (standing self.old) (standing self.new).place (standing self.new).tried o.raw) }
+    {
+        if self.sections >= MOST_SECTIONS {
+            return Err(Kind::OverLimit.at(self.end.last));
+        }
+        let opening = self.open()?;
+        let room = self.sections + 1 < MOST_SECTIONS;
+        let passed = pass_rest(self.source, opening, room, &self.rows)?;
+        self.end = passed.end;
+        self.sections += 1;
+        self.raw += passed.value.raw;
+        Ok(passed.value)
+    }
 }

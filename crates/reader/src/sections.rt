@@ -1,13 +1,16 @@
 // Reading the head of a section.
 ghost use Rattle.std.specs.Prelude.{◌≡◌, ℕ, ◌≤◌, length, IfOk};
+ghost use Rattle.bits.specs.Bits.{bits_of};
 ghost use Rattle.format.specs.Format.{Format, times};
 ghost use Rattle.layout.specs.Slim.{channel_count, channel};
 ghost use Rattle.calls.specs.Calls as calls;
 ghost use Rattle.calls.specs.Parts.{described};
 ghost use Rattle.reading.specs.Told.{bits_in, told};
+ghost use Rattle.reader.specs.Walks.{standing};
 ghost use Rattle.reader.specs.Sections.{raw_field, head, rows_in, head_in, AtRest};
 
 use crate::opening::Opening;
+use crate::walk::Walk;
 use channel::record::Channel;
 use faults::kind::{Fault, Kind};
 use fields::place::{BitPlace, Cursor};
@@ -82,34 +85,31 @@ fn take_channels(
 ) -> Result<Taken<usize>, Fault>
     ensures rows { told (rows_in table.new) result ≡ (described (calls.flags flags)).reads (bits_in source.entry) from.at.bits from.last.bits }
     ensures rest { AtRest (λ n. n) table.new result }
+    ensures most { IfOk result (λ t. t.value ≤ 32) }
 {
     let count = take_count(source, from, flags)?;
     let recorded = flags.records_repeats(count.value);
     take_rows(source, count.end, recorded, &mut table[..count.value])
 }
 
-// Takes the head of a section after so many raw bytes; the channels go to the first rows of a table, at their starting memories.
-pub(crate) fn take_opening(
-    source: Source,
-    at: BitPlace,
-    flags: Flags,
-    total: u32,
-    table: &mut [Channel; MOST_CHANNELS],
-) -> Result<Taken<Opening>, Fault>
-    requires { total ≤ 16777216 }
-    ensures head { (l : ℕ) → told (head_in table.new) result ≡ (head (calls.flags flags) total).reads (bits_in source.entry) at.bits l }
-    ensures rest { AtRest (λ o. o.rows) table.new result }
-{
-    let raw = take_raw(source, at, total)?;
-    let pointer = source.take_flagged(
-        flags.pointed,
-        raw.end,
-        |source, at| source.take_number(at, 32),
-    )?;
-    let rows = take_channels(source, pointer.end, flags, table)?;
-    Ok(rows.with(Opening {
-        raw: raw.value,
-        pointer: pointer.value,
-        rows: rows.value,
-    }))
+impl<'a> Walk<'a> {
+    // Reads the head of the next section; the channels go to the first rows, at their starting memories.
+    pub(crate) fn open(&mut self) -> Result<Taken<Opening>, Fault>
+        ensures head { (l : ℕ) → told (head_in self.new.rows) result ≡ (head (standing self.old).flags self.old.raw).reads (bits_of (standing self.old).file) self.old.end.at.bits l }
+        ensures rest { AtRest (λ o. o.rows) self.new.rows result }
+        ensures stays { standing self.new ≡ standing self.old }
+    {
+        let raw = take_raw(self.source, self.end.at, self.raw)?;
+        let pointer = self.source.take_flagged(
+            self.flags.pointed,
+            raw.end,
+            |source, at| source.take_number(at, 32),
+        )?;
+        let rows = take_channels(self.source, pointer.end, self.flags, &mut self.rows)?;
+        Ok(rows.with(Opening {
+            raw: raw.value,
+            pointer: pointer.value,
+            rows: rows.value,
+        }))
+    }
 }

@@ -16,7 +16,7 @@ returns-in_err-words c =
     let e = c.args.opening.end in
     let (none, same) = nothing-there c.count_words.result c.at.result c.in_err-words.field-0.0 (sym c.in_err-words.was ∙ c.ok_or.ensures.value) in
     let cut = fault-is c.in_err-words.field-0.0 _ e.last _ (same ∙ c.at.ensures)
-    (rest-cut c.args.room h f e.at.bits e.last.bits (count-is h.channels h.raw _ c.requires.countable (sym none ∙ c.count_words.ensures))) in
+    (rest-cut c.args.room h f e.at.bits e.last.bits (count-is h.channels h.raw _ c.requires (sym none ∙ c.count_words.ensures))) in
     passed (outline_in f) c.from_residual.result c.in_err-words.field-0.0 _ c.from_residual.ensures.1 (ap (seen outline) cut)
 
 pub returns-in_err-passed : goal.returns-in_err-passed
@@ -27,8 +27,8 @@ returns-in_err-passed c =
     let e = c.args.opening.end in
     let small : leb (length bytes) 16777216 ≡ true = le-leb (length bytes) 16777216 c.args.source.small in
     let some = value_there c.count_words.result c.at.result c.in_ok-words.words (sym c.in_ok-words.was ∙ c.ok_or.ensures.value) in
-    let count = count-is h.channels h.raw _ c.requires.countable (sym some ∙ c.count_words.ensures) in
-    let w = words-not h.channels bytes e.at.bits e.last.bits c.in_ok-words.words c.requires.countable small _ _ c.in_err-passed.ensures in
+    let count = count-is h.channels h.raw _ c.requires (sym some ∙ c.count_words.ensures) in
+    let w = words-not h.channels bytes e.at.bits e.last.bits c.in_ok-words.words c.requires small _ _ c.in_err-passed.ensures in
     passed (outline_in f) c.from_residual-in_err-passed.result c.in_err-passed.field-0.0 _ c.from_residual-in_err-passed.ensures.1
     (ap (seen outline) (rest-no-words c.args.room h f e.at.bits e.last.bits count w))
 
@@ -40,9 +40,9 @@ returns-in_err-closing c =
     let e = c.args.opening.end in
     let small : leb (length bytes) 16777216 ≡ true = le-leb (length bytes) 16777216 c.args.source.small in
     let some = value_there c.count_words.result c.at.result c.in_ok-words.words (sym c.in_ok-words.was ∙ c.ok_or.ensures.value) in
-    let count = count-is h.channels h.raw _ c.requires.countable (sym some ∙ c.count_words.ensures) in
+    let count = count-is h.channels h.raw _ c.requires (sym some ∙ c.count_words.ensures) in
     let p = c.in_ok-passed.passed in
-    let (ws, w, _) = words-on h.channels bytes e.at.bits e.last.bits c.in_ok-words.words c.requires.countable small p.at.bits p.last.bits c.in_ok-passed.ensures in
+    let (ws, w, _) = words-on h.channels bytes e.at.bits e.last.bits c.in_ok-words.words c.requires small p.at.bits p.last.bits c.in_ok-passed.ensures in
     passed (outline_in f) c.from_residual-in_err-closing.result c.in_err-closing.field-0.0 _ c.from_residual-in_err-closing.ensures.1
     (ap (seen outline) (rest-no-end c.args.room h f e.at.bits e.last.bits count w (c.in_err-closing.ensures p.last.bits)))
 
@@ -54,9 +54,9 @@ returns-in_err-padding c =
     let e = c.args.opening.end in
     let small : leb (length bytes) 16777216 ≡ true = le-leb (length bytes) 16777216 c.args.source.small in
     let some = value_there c.count_words.result c.at.result c.in_ok-words.words (sym c.in_ok-words.was ∙ c.ok_or.ensures.value) in
-    let count = count-is h.channels h.raw _ c.requires.countable (sym some ∙ c.count_words.ensures) in
+    let count = count-is h.channels h.raw _ c.requires (sym some ∙ c.count_words.ensures) in
     let p = c.in_ok-passed.passed in
-    let (ws, w, _) = words-on h.channels bytes e.at.bits e.last.bits c.in_ok-words.words c.requires.countable small p.at.bits p.last.bits c.in_ok-passed.ensures in
+    let (ws, w, _) = words-on h.channels bytes e.at.bits e.last.bits c.in_ok-words.words c.requires small p.at.bits p.last.bits c.in_ok-passed.ensures in
     passed (outline_in f) c.from_residual-in_err-padding.result c.in_err-padding.field-0.0 _ c.from_residual-in_err-padding.ensures.1
     (ap (seen outline) (rest-no_pads c.args.room h f e.at.bits e.last.bits count w (c.in_ok-closing.ensures p.last.bits) c.in_err-padding.ensures))
 
@@ -68,10 +68,10 @@ returns-then-not-names_next c =
     let e = c.args.opening.end in
     let small : leb (length bytes) 16777216 ≡ true = le-leb (length bytes) 16777216 c.args.source.small in
     let some = value_there c.count_words.result c.at.result c.in_ok-words.words (sym c.in_ok-words.was ∙ c.ok_or.ensures.value) in
-    let count = count-is h.channels h.raw _ c.requires.countable (sym some ∙ c.count_words.ensures) in
+    let count = count-is h.channels h.raw _ c.requires (sym some ∙ c.count_words.ensures) in
     let p = c.in_ok-passed.passed in
     let end : ℕ = c.in_ok-padding.padding.end.at.bits in
-    let (ws, w, _) = words-on h.channels bytes e.at.bits e.last.bits c.in_ok-words.words c.requires.countable small p.at.bits p.last.bits c.in_ok-passed.ensures in
+    let (ws, w, _) = words-on h.channels bytes e.at.bits e.last.bits c.in_ok-words.words c.requires small p.at.bits p.last.bits c.in_ok-passed.ensures in
     let name = named f c.in_ok-closing.closing.value h.pointer (end / 8) _ c.if-not-names_next.ensures in
     ap (seen outline) (fault-is c.at-then-not-names_next.result _ c.in_ok-padding.padding.end.last _ c.at-then-not-names_next.ensures
     (rest-off c.args.room h f e.at.bits e.last.bits count w (c.in_ok-closing.ensures p.last.bits) c.in_ok-padding.ensures name))
@@ -84,9 +84,9 @@ returns c =
     let e = c.args.opening.end in
     let small : leb (length bytes) 16777216 ≡ true = le-leb (length bytes) 16777216 c.args.source.small in
     let some = value_there c.count_words.result c.at.result c.in_ok-words.words (sym c.in_ok-words.was ∙ c.ok_or.ensures.value) in
-    let count = count-is h.channels h.raw _ c.requires.countable (sym some ∙ c.count_words.ensures) in
+    let count = count-is h.channels h.raw _ c.requires (sym some ∙ c.count_words.ensures) in
     let p = c.in_ok-passed.passed in
     let end : ℕ = c.in_ok-padding.padding.end.at.bits in
-    let (ws, w, many) = words-on h.channels bytes e.at.bits e.last.bits c.in_ok-words.words c.requires.countable small p.at.bits p.last.bits c.in_ok-passed.ensures in
+    let (ws, w, many) = words-on h.channels bytes e.at.bits e.last.bits c.in_ok-words.words c.requires small p.at.bits p.last.bits c.in_ok-passed.ensures in
     let name = named f c.in_ok-closing.closing.value h.pointer (end / 8) _ c.if-not-names_next.ensures in
     with-is (outline_in f) c.with.ensures (rest-on c.args.room h f e.at.bits e.last.bits count w (c.in_ok-closing.ensures p.last.bits) c.in_ok-padding.ensures name many)

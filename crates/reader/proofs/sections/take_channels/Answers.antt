@@ -9,7 +9,7 @@ use Rattle.channel.specs.declared.record.Channel.{Channel}
 use Rattle.reading.proofs.Steps.{passed}
 use Rattle.reader.specs.Sections.{rows_in}
 use Rattle.reader.proofs.Heads.{channels-not, channels-on}
-use Rattle.reader.proofs.Rows.{rows-told, rows-rest}
+use Rattle.reader.proofs.Rows.{rows-told, rows-rest, rows_most}
 use Rattle.reader.proofs.sections.take_channels.Goals as goal
 
 pub returns-in_err-count-clause-rows : goal.returns-in_err-count-clause-rows
@@ -31,4 +31,5 @@ returns c =
           ∙ ap (λ (k : ℕ). (times k (channel c.records_repeats-recorded.result)).reads f n.end.at.bits n.end.last.bits) many
           ∙ ap (λ (kept : Bool). (times n.value (channel kept)).reads f n.end.at.bits n.end.last.bits) c.records_repeats-recorded.ensures);
       rest = rows-rest c.take_rows.new.rows _ c.take_rows.result c.take_rows.ensures.many c.take_rows.ensures.rest;
+      most = rows_most c.take_rows.new.rows c.take_rows.result (omega (arith, many, c.in_ok-count.ensures.most)) c.take_rows.ensures.many;
     }

@@ -1,5 +1,5 @@
 -- Rows that are read one after the other into a table.
-use Rattle.std.proofs.Common.{◌≡◌, ℕ, ◌+◌, ◌-◌, ◌<◌, ◌≤◌, Bool, List, [], ◌∷◌, ◌++◌, map, length, take, set, IfOk, IsErrAnd, Ok, Err, Result, sym, refl, ap, ◌∙◌, arith, length-append}
+use Rattle.std.proofs.Common.{◌≡◌, ℕ, ◌+◌, ◌-◌, ◌<◌, ◌≤◌, Bool, List, [], ◌∷◌, ◌++◌, map, length, take, set, IfOk, Ok, Err, Result, sym, refl, ap, ◌∙◌, arith, length-append}
 use Rattle.std.proofs.lemmas.List.{map-append, take_more_set, take-append-le}
 use Rattle.faults.specs.declared.kind.Fault.{Fault}
 use Rattle.format.specs.Cells.{File}
@@ -22,10 +22,6 @@ rest_more t i x h r z =
     let e = take_more_set t i x h in
     let m : rested x ≡ x = ap (λ (k : ℕ). record { settings = x.settings; memory = k }) (sym z) in
     ap (map rested) e ∙ map-append rested (take i t) (x ∷ []) ∙ ap (λ ys. ys ++ rested x ∷ []) r ∙ ap (λ (y : Channel). take i t ++ y ∷ []) m ∙ sym e
-
-pub none-at-rest : {T : Type 0} (rows : T → ℕ) (t : List Channel) (r : Result (Taken T) Fault) (e : Fault) → IsErrAnd r (λ x. x ≡ e) → AtRest rows t r
-none-at-rest rows t (Ok x) e h = absurd h
-none-at-rest rows t (Err x) e h = tt
 
 -- the rows so far, and behind them those that are left to read
 unfoldable pub so_far : Bool → File → ℕ → List recordings.Channel → ℕ → ℕ → ℕ → Outcome (List recordings.Channel)

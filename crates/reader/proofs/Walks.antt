@@ -16,7 +16,7 @@ use Rattle.reading.specs.declared.closing.Closing.TheVariants.{Another, Ended}
 use Rattle.reading.specs.Blocks.{closing_of}
 use Rattle.reader.specs.declared.outline.Outline.{Outline}
 use Rattle.reader.specs.Counts.{seen, outline, outline_in, body_totals}
-use Rattle.reader.specs.Walks.{Standing, head_read, next_section, all_sections, moved, stepped}
+use Rattle.reader.specs.Walks.{Standing, has_room, head_read, next_section, all_sections, moved, stepped}
 use Rattle.reader.proofs.Passed.{section-no-head, section-rest, onward, onward-start, onward-end, pass-not, pass-bounds, pass-ended, pass-another}
 
 -- a fault that is handed on
@@ -36,11 +36,8 @@ head-back f o few e =
     e ∙ ap (λ (x : Bool). cond x (fault 1 0) ((heads.head).reads (bits_of f) 0 0)) t
 
 module _ (s : Standing) (l : ℕ) where
-  abbrev pub Room : ℕ → Bool
-  Room n = ltb (n + 1) 64
-
   abbrev read : Outcome (ℕ × ℕ × slim.Closing)
-  read = seen outline ((piece s.flags (Room s.sections) s.raw).reads (bits_of s.file) s.place l)
+  read = seen outline ((piece s.flags (has_room s) s.raw).reads (bits_of s.file) s.place l)
 
   pub next-is : s.sections < 64 → read ≡ next_section s l
   next-is h = let t = lt-ltb s.sections 64 h in ap (λ (x : Bool). cond x read (fault 9 s.tried)) (sym t)
@@ -50,15 +47,15 @@ module _ (s : Standing) (l : ℕ) where
 
   -- the head of the next section was not read
   pub next-no-head : {x y : ℕ} → s.sections < 64 → fault x y ≡ (head s.flags s.raw).reads (bits_of s.file) s.place l → fault x y ≡ next_section s l
-  next-no-head h e = section-no-head s.flags (Room s.sections) s.raw (bits_of s.file) s.place l e ∙ next-is h
+  next-no-head h e = section-no-head s.flags (has_room s) s.raw (bits_of s.file) s.place l e ∙ next-is h
 
   -- it was, and what follows it is read from where the walk then stands
   module _ (v : Standing) (same : v ≡ s) (h : Head) (q m : ℕ) (e : got h q m ≡ (head s.flags s.raw).reads (bits_of s.file) s.place l) where
-    pub rest-read : (o : Outcome (ℕ × ℕ × slim.Closing)) → o ≡ seen outline ((rest (Room v.sections) h).reads (bits_of v.file) q m) → o ≡ read
-    rest-read o d = section-rest s.flags (Room s.sections) s.raw (bits_of s.file) s.place l e (subst (λ (z : Standing). o ≡ seen outline ((rest (Room z.sections) h).reads (bits_of z.file) q m)) same d)
+    pub rest-read : (o : Outcome (ℕ × ℕ × slim.Closing)) → o ≡ seen outline ((rest (has_room v) h).reads (bits_of v.file) q m) → o ≡ read
+    rest-read o d = section-rest s.flags (has_room s) s.raw (bits_of s.file) s.place l e (subst (λ (z : Standing). o ≡ seen outline ((rest (has_room z) h).reads (bits_of z.file) q m)) same d)
 
-    pub rest-bounds : (n k : ℕ) (c : slim.Closing) (q₁ m₁ : ℕ) → s.sections < 64 → got (n, k, c) q₁ m₁ ≡ seen outline ((rest (Room v.sections) h).reads (bits_of v.file) q m) → s.raw + n ≤ 16777216
-    rest-bounds n k c q₁ m₁ less d = (pass-bounds s.flags (bits_of s.file) s.sections 0 s.raw s.place l (Room s.sections) less refl n k c q₁ m₁ (rest-read (got (n, k, c) q₁ m₁) d)).0
+    pub rest-bounds : (n k : ℕ) (c : slim.Closing) (q₁ m₁ : ℕ) → s.sections < 64 → got (n, k, c) q₁ m₁ ≡ seen outline ((rest (has_room v) h).reads (bits_of v.file) q m) → s.raw + n ≤ 16777216
+    rest-bounds n k c q₁ m₁ less d = (pass-bounds s.flags (bits_of s.file) s.sections 0 s.raw s.place l (has_room s) less refl n k c q₁ m₁ (rest-read (got (n, k, c) q₁ m₁) d)).0
 
 -- ## What passing a section answered
 
@@ -100,7 +97,7 @@ module _ (s s₀ : Standing) (words : ℕ) (w : Onward s words s₀) where
       by-test : (t : Bool) → ltb s.sections 64 ≡ t → fault x y ≡ seen body_totals (all_sections s₀)
       by-test true h =
           let less = ltb-true s.sections 64 h in
-          pass-not s.flags (bits_of s.file) s.sections words s.raw s.place s.tried (Room s s.tried s.sections) less refl x y (e ∙ sym (next-is s s.tried less)) ∙ w.left
+          pass-not s.flags (bits_of s.file) s.sections words s.raw s.place s.tried (has_room s) less refl x y (e ∙ sym (next-is s s.tried less)) ∙ w.left
       by-test false h =
           let over = ltb-false s.sections 64 h in
           let z : 64 - s.sections ≡ 0 = omega arith in
@@ -115,14 +112,14 @@ module _ (s s₀ : Standing) (words : ℕ) (w : Onward s words s₀) where
     pub all-bounds : (s.raw + o.raw ≤ 16777216) × (o.words ≤ o.raw)
     all-bounds =
         let (less, d) = known in
-        pass-bounds s.flags (bits_of s.file) s.sections words s.raw s.place s.tried (Room s s.tried s.sections) less refl o.raw o.words (closing_of (bits_of s.file) o.closing) v.place v.tried d
+        pass-bounds s.flags (bits_of s.file) s.sections words s.raw s.place s.tried (has_room s) less refl o.raw o.words (closing_of (bits_of s.file) o.closing) v.place v.tried d
 
     module _ (moves : v ≡ moved s v.place v.tried o.raw) where
       pub all-ended : (b : Block) → o.closing ≡ Ended b → got (record { sections = v.sections; words = words + o.words; raw = v.raw; leftovers = b.len }) v.place v.tried ≡ seen body_totals (all_sections s₀)
       all-ended b c =
           let (less, d) = known in
           ap (λ (z : Standing). got (record { sections = z.sections; words = words + o.words; raw = z.raw; leftovers = b.len }) v.place v.tried) moves
-          ∙ pass-ended s.flags (bits_of s.file) s.sections words s.raw s.place s.tried (Room s s.tried s.sections) less refl o.raw o.words o.closing b v.place v.tried c d
+          ∙ pass-ended s.flags (bits_of s.file) s.sections words s.raw s.place s.tried (has_room s) less refl o.raw o.words o.closing b v.place v.tried c d
           ∙ w.left
 
       pub all-more : o.closing ≡ Another → Onward v (words + o.words) s₀
@@ -131,7 +128,7 @@ module _ (s s₀ : Standing) (words : ℕ) (w : Onward s words s₀) where
           let (_, few) = all-bounds in
           record {
             left = ap (λ (z : Standing). onward z.flags (bits_of z.file) (64 - z.sections) z.sections (words + o.words) z.raw v.place v.tried) moves
-                ∙ pass-another s.flags (bits_of s.file) s.sections words s.raw s.place s.tried (Room s s.tried s.sections) less refl o.raw o.words o.closing v.place v.tried c d
+                ∙ pass-another s.flags (bits_of s.file) s.sections words s.raw s.place s.tried (has_room s) less refl o.raw o.words o.closing v.place v.tried c d
                 ∙ w.left;
             few = let z : v.raw ≡ s.raw + o.raw = ap (λ (z : Standing). z.raw) moves in omega (arith, w.few, few, z);
             size = ap (λ (z : Standing). z.size) moves ∙ w.size;

@@ -1,5 +1,5 @@
 -- A walk over the sections of a file.
-use Rattle.std.specs.Prelude.{◌≡◌, ℕ, ◌+◌, cond, List, length, Ok, Err, Option, Result, nat_lt}
+use Rattle.std.specs.Prelude.{◌≡◌, ℕ, ◌+◌, Bool, cond, List, length, Ok, Err, Option, Result, nat_lt}
 use Rattle.bits.specs.Bits.{bits_of}
 use Rattle.faults.specs.Faults.{number_of}
 use Rattle.faults.specs.declared.kind.Fault.{Fault}
@@ -44,9 +44,13 @@ Begins f (Err e) = fault (number_of e.kind) e.place.bits ≡ head_read f
 abbrev pub moved : Standing → ℕ → ℕ → ℕ → Standing
 moved s p l n = record { file = s.file; size = s.size; flags = s.flags; place = p; tried = l; sections = s.sections + 1; raw = s.raw + n }
 
+-- whether another section may follow the next one
+abbrev pub has_room : Standing → Bool
+has_room s = nat_lt (s.sections + 1) most_sections
+
 -- the next section, behind at most 63 others
 abbrev pub next_section : Standing → ℕ → Outcome (ℕ × ℕ × slim.Closing)
-next_section s l = cond (nat_lt s.sections most_sections) (seen outline ((piece s.flags (nat_lt (s.sections + 1) most_sections) s.raw).reads (bits_of s.file) s.place l)) (fault 9 s.tried)
+next_section s l = cond (nat_lt s.sections most_sections) (seen outline ((piece s.flags (has_room s) s.raw).reads (bits_of s.file) s.place l)) (fault 9 s.tried)
 
 -- all sections of a file, from the first on
 abbrev pub all_sections : Standing → Outcome Body

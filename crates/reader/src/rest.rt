@@ -3,8 +3,8 @@ ghost use Rattle.std.specs.Prelude.{◌≡◌, ℕ, true, IfOk};
 ghost use Rattle.bits.specs.Bits.{bits_of};
 ghost use Rattle.format.specs.Format.{Format};
 ghost use Rattle.frames.specs.Frames.{countable};
-ghost use Rattle.reading.specs.Told.{bits_in, told};
-ghost use Rattle.reader.specs.Walks.{standing, stepped, next_section, moved};
+ghost use Rattle.reading.specs.Told.{told};
+ghost use Rattle.reader.specs.Walks.{standing, has_room, stepped, next_section, moved};
 ghost use Rattle.reader.specs.Sections.{rest, rows_in, head_in};
 ghost use Rattle.reader.specs.Counts.{seen, outline, outline_in};
 
@@ -12,42 +12,37 @@ use crate::ends::{names_next, take_end, take_padding};
 use crate::opening::Opening;
 use crate::outline::Outline;
 use crate::walk::Walk;
-use channel::record::Channel;
 use faults::kind::{Fault, Kind};
 use fields::place::{BitPlace, Cursor};
 use frames::count_words;
-use limits::{MOST_CHANNELS, MOST_SECTIONS};
-use reading::source::Source;
+use limits::MOST_SECTIONS;
 use reading::taken::Taken;
 use words::pass::pass_words;
 
-// Reads what follows the head of a section; another section may follow where there is room for it.
-fn pass_rest(
-    source: Source,
-    opening: Taken<Opening>,
-    room: bool,
-    table: &[Channel; MOST_CHANNELS],
-) -> Result<Taken<Outline>, Fault>
-    requires { countable (rows_in table.now opening.value.rows) ≡ true }
-    ensures { told (outline_in (bits_in source.entry)) result ≡ seen outline ((rest room (head_in table.now opening.value)).reads (bits_in source.entry) opening.end.at.bits opening.end.last.bits) }
-{
-    let Opening { raw, pointer, rows } = opening.value;
-    let Cursor { at, last } = opening.end;
-    let words = count_words(&table[..rows], raw).ok_or(Kind::PartialWord.at(last))?;
-    let passed = pass_words(source.bytes, at, last, &table[..rows], words)?;
-    let closing = take_end(source, passed.at, room)?;
-    let padding = take_padding(source, closing.end)?;
-    if !names_next(pointer, closing.value, padding.end.at) {
-        return Err(Kind::WrongPointer.at(padding.end.last));
-    }
-    Ok(padding.with(Outline {
-        raw,
-        words,
-        closing: closing.value,
-    }))
-}
-
 impl<'a> Walk<'a> {
+    // Reads what follows the head of the next section; another may follow behind fewer than 63.
+    fn pass_rest(&self, opening: Taken<Opening>) -> Result<Taken<Outline>, Fault>
+        requires { countable (rows_in self.now.rows opening.value.rows) ≡ true }
+        ensures { told (outline_in (bits_of (standing self.now).file)) result ≡ seen outline ((rest (has_room (standing self.now)) (head_in self.now.rows opening.value)).reads (bits_of (standing self.now).file) opening.end.at.bits opening.end.last.bits) }
+    {
+        let Opening { raw, pointer, rows } = opening.value;
+        let Cursor { at, last } = opening.end;
+        let rows = &self.rows[..rows];
+        let words = count_words(rows, raw).ok_or(Kind::PartialWord.at(last))?;
+        let passed = pass_words(self.source.bytes, at, last, rows, words)?;
+        let room = self.sections + 1 < MOST_SECTIONS;
+        let closing = take_end(self.source, passed.at, room)?;
+        let padding = take_padding(self.source, closing.end)?;
+        if !names_next(pointer, closing.value, padding.end.at) {
+            return Err(Kind::WrongPointer.at(padding.end.last));
+        }
+        Ok(padding.with(Outline {
+            raw,
+            words,
+            closing: closing.value,
+        }))
+    }
+
     // Passes the next section. Fault 9 behind 64 of them.
     pub(crate) fn pass(&mut self) -> Result<Outline, Fault>
         ensures section { (l : ℕ) → stepped (outline_in (bits_of (standing self.old).file)) (standing self.new) result ≡ next_section (standing self.old) l }
@@ -57,8 +52,7 @@ impl<'a> Walk<'a> {
             return Err(Kind::OverLimit.at(self.end.last));
         }
         let opening = self.open()?;
-        let room = self.sections + 1 < MOST_SECTIONS;
-        let passed = pass_rest(self.source, opening, room, &self.rows)?;
+        let passed = self.pass_rest(opening)?;
         self.end = passed.end;
         self.sections += 1;
         self.raw += passed.value.raw;

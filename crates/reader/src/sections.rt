@@ -13,26 +13,11 @@ use crate::opening::Opening;
 use crate::walk::Walk;
 use channel::record::Channel;
 use faults::kind::{Fault, Kind};
-use fields::place::{BitPlace, Cursor};
+use fields::place::Cursor;
 use limits::{MOST_CHANNELS, MOST_RAW};
 use reading::source::Source;
 use reading::taken::Taken;
 use state::Flags;
-
-// Takes the raw size, after so many raw bytes.
-fn take_raw(source: Source, at: BitPlace, total: u32) -> Result<Taken<u32>, Fault>
-    requires { total ≤ 16777216 }
-    ensures { (l : ℕ) → told (λ v. v) result ≡ (raw_field total).reads (bits_in source.entry) at.bits l }
-{
-    let raw = source.take_number(at, 32)?;
-    if raw.value == 0 {
-        return Err(Kind::NoSection.at(at));
-    }
-    if raw.value > MOST_RAW - total {
-        return Err(Kind::OverLimit.at(raw.end.last));
-    }
-    Ok(raw)
-}
 
 // Takes the number of channels, which is 1 under one-channel.
 fn take_count(source: Source, from: Cursor, flags: Flags) -> Result<Taken<usize>, Fault>
@@ -93,13 +78,28 @@ fn take_channels(
 }
 
 impl<'a> Walk<'a> {
+    // Takes the raw size of the next section.
+    fn take_raw(&self) -> Result<Taken<u32>, Fault>
+        ensures { (l : ℕ) → told (λ v. v) result ≡ (raw_field self.now.raw).reads (bits_of (standing self.now).file) self.now.end.at.bits l }
+    {
+        let at = self.end.at;
+        let raw = self.source.take_number(at, 32)?;
+        if raw.value == 0 {
+            return Err(Kind::NoSection.at(at));
+        }
+        if raw.value > MOST_RAW - self.raw {
+            return Err(Kind::OverLimit.at(raw.end.last));
+        }
+        Ok(raw)
+    }
+
     // Reads the head of the next section; the channels go to the first rows, at their starting memories.
     pub(crate) fn open(&mut self) -> Result<Taken<Opening>, Fault>
         ensures head { (l : ℕ) → told (head_in self.new.rows) result ≡ (head (standing self.old).flags self.old.raw).reads (bits_of (standing self.old).file) self.old.end.at.bits l }
         ensures rest { AtRest (λ o. o.rows) self.new.rows result }
         ensures stays { standing self.new ≡ standing self.old }
     {
-        let raw = take_raw(self.source, self.end.at, self.raw)?;
+        let raw = self.take_raw()?;
         let pointer = self.source.take_flagged(
             self.flags.pointed,
             raw.end,

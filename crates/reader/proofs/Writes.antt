@@ -4,14 +4,13 @@ use Rattle.std.proofs.lemmas.Bool.{ltb-true, ltb-false}
 use Rattle.bits.specs.Bits.{bits_of, put_bits, Bytes}
 use Rattle.faults.specs.Faults.{gives}
 use Rattle.format.specs.Format.{got, fault}
-use Rattle.layout.specs.Turns.{raw_size}
-use Rattle.layout.specs.Slim.{Piece, piece}
 use Rattle.reading.specs.declared.block.Block.{Block}
 use Rattle.reading.specs.declared.closing.Closing.TheVariants.{Another, Ended}
 use Rattle.reading.specs.Blocks.{bytes_at}
 use Rattle.reader.specs.declared.outline.Outline.{Outline}
 use Rattle.reader.specs.Counts.{outline_in}
-use Rattle.reader.specs.Unpacking.{section_bytes, RoomFor, body_answer, body_left}
+use Rattle.reader.specs.Written.{WritesNext}
+use Rattle.reader.specs.Unpacking.{RoomFor, body_answer, body_left}
 use Rattle.reader.specs.Walks.{Standing, has_room, next_section, all_sections, moved}
 use Rattle.reader.proofs.Walks.{next-is, next-back}
 use Rattle.reader.proofs.Unpacked.{Writing, write-start, write-left, write_read, write-another, ended-few, ended-room, ended-answer, ended-bytes}
@@ -26,11 +25,6 @@ writes-start s out a b room bs =
     (subst (λ (r : ℕ). Writing s.flags (bits_of s.file) (all_sections s) out 64 r s.place out) (sym b)
     (write-start s.flags (bits_of s.file) out s.place s.tried room bs))
 
--- what writing a section leaves
-abbrev pub Wrote : Standing → List ℕ → List ℕ → Type 0
-Wrote s now after =
-    (room : Bool) (l : ℕ) (x : Piece) (q m : ℕ) → (piece s.flags room s.raw).reads (bits_of s.file) s.place l ≡ got x q m → s.raw + raw_size x.section ≤ length now → after ≡ put_bits now (8 * s.raw) (bits_of (section_bytes x.section))
-
 module _ (s s₀ : Standing) (out now : List ℕ) (w : Writes s s₀ out now) where
   pub writes-read : (x y : ℕ) → s.sections ≤ 64 → fault x y ≡ next_section s w.last → ⊥
   writes-read x y most e = by-test (ltb s.sections 64) refl
@@ -43,7 +37,7 @@ module _ (s s₀ : Standing) (out now : List ℕ) (w : Writes s s₀ out now) wh
           let over = ltb-false s.sections 64 h in
           write-left s.flags (bits_of s.file) (all_sections s₀) out (64 - s.sections) s.raw s.place now (omega arith) w
 
-  module _ (after : List ℕ) (wrote : Wrote s now after) (v : Standing) (o : Outline) (e : got (outline_in (bits_of s.file) o) v.place v.tried ≡ next_section s w.last) (moves : v ≡ moved s v.place v.tried o.raw) where
+  module _ (after : List ℕ) (wrote : WritesNext s now after) (v : Standing) (o : Outline) (e : got (outline_in (bits_of s.file) o) v.place v.tried ≡ next_section s w.last) (moves : v ≡ moved s v.place v.tried o.raw) where
     raw-is : v.raw ≡ s.raw + o.raw
     raw-is = ap (λ (z : Standing). z.raw) moves
 

@@ -5,3 +5,4 @@ pub mod Walks
 pub mod Claims
 pub mod Describing
 pub mod Unpacking
+pub mod Written

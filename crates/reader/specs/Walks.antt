@@ -35,6 +35,10 @@ head_read f = cond (nat_lt most_bytes (length f)) (fault 1 0) ((heads.head).read
 abbrev pub first_standing : List ℕ → heads.Head → ℕ → ℕ → Standing
 first_standing f h p l = record { file = f; size = h.size; flags = section_flags h; place = p; tried = l; sections = 0; raw = 0 }
 
+-- no section was passed
+abbrev pub AtFirst : Standing → Type 0
+AtFirst s = (s.sections ≡ 0) × (s.raw ≡ 0)
+
 -- a walk begins at the first section of a file
 abbrev pub Begins : List ℕ → Result Walk Fault → Type 0
 Begins f (Ok w) = (h : heads.Head) × (got h w.end.at.bits w.end.last.bits ≡ head_read f) × (standing w ≡ first_standing f h w.end.at.bits w.end.last.bits)

@@ -1,7 +1,7 @@
 // Checking a whole file.
 ghost use Rattle.std.specs.Prelude.{◌≡◌, IfOk};
 ghost use Rattle.faults.specs.Faults.{answered};
-ghost use Rattle.reader.specs.Walks.{standing, stepped, all_sections};
+ghost use Rattle.reader.specs.Walks.{standing, AtFirst, stepped, all_sections};
 ghost use Rattle.reader.specs.Counts.{seen, body_totals, check_answer};
 ghost use Rattle.reader.specs.Claims.{CheckingStands};
 
@@ -13,7 +13,7 @@ use reading::closing::Closing;
 impl<'a> Walk<'a> {
     // Passes all sections, from the first on.
     fn pass_all(&mut self) -> Result<Totals, Fault>
-        requires { (self.old.sections ≡ 0) × (self.old.raw ≡ 0) }
+        requires { AtFirst (standing self.old) }
         ensures totals { stepped (λ t. t) (standing self.new) result ≡ seen body_totals (all_sections (standing self.old)) }
         ensures size { IfOk result (λ t. self.new.size ≡ self.old.size) }
     {

@@ -1,7 +1,7 @@
 // Describing a section of a file.
 ghost use Rattle.std.specs.Prelude.{◌≡◌, length};
 ghost use Rattle.faults.specs.Faults.{answered};
-ghost use Rattle.reader.specs.Walks.{standing, all_sections};
+ghost use Rattle.reader.specs.Walks.{standing, AtFirst, all_sections};
 ghost use Rattle.reader.specs.Describing.{HasSection, section_in, Found, describe_answer, describe_table, HoldsSection};
 
 use crate::check::check;
@@ -21,7 +21,7 @@ pub struct Described {
 impl<'a> Walk<'a> {
     // Passes so many sections, from the first on, and reads the head of the next, which is there.
     fn find(&mut self, section: usize) -> Result<Taken<Opening>, Fault>
-        requires first { (self.old.sections ≡ 0) × (self.old.raw ≡ 0) }
+        requires first { AtFirst (standing self.old) }
         requires there { HasSection (all_sections (standing self.old)) section }
         ensures { Found (section_in (all_sections (standing self.old)) section) self.new.rows result }
     {

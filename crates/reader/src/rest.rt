@@ -13,7 +13,7 @@ use crate::opening::Opening;
 use crate::outline::Outline;
 use crate::walk::Walk;
 use faults::kind::{Fault, Kind};
-use fields::place::{BitPlace, Cursor};
+use fields::place::Cursor;
 use frames::count_words;
 use limits::MOST_SECTIONS;
 use reading::taken::Taken;
@@ -23,7 +23,7 @@ impl<'a> Walk<'a> {
     // Reads what follows the head of the next section; another may follow behind fewer than 63.
     fn pass_rest(&self, opening: Taken<Opening>) -> Result<Taken<Outline>, Fault>
         requires { countable (rows_in self.now.rows opening.value.rows) ≡ true }
-        ensures { told (outline_in (bits_of (standing self.now).file)) result ≡ seen outline ((rest (has_room (standing self.now)) (head_in self.now.rows opening.value)).reads (bits_of (standing self.now).file) opening.end.at.bits opening.end.last.bits) }
+        ensures { let s = standing self.now in told (outline_in (bits_of s.file)) result ≡ seen outline ((rest (has_room s) (head_in self.now.rows opening.value)).reads (bits_of s.file) opening.end.at.bits opening.end.last.bits) }
     {
         let Opening { raw, pointer, rows } = opening.value;
         let Cursor { at, last } = opening.end;
@@ -45,8 +45,8 @@ impl<'a> Walk<'a> {
 
     // Passes the next section. Fault 9 behind 64 of them.
     pub(crate) fn pass(&mut self) -> Result<Outline, Fault>
-        ensures section { (l : ℕ) → stepped (outline_in (bits_of (standing self.old).file)) (standing self.new) result ≡ next_section (standing self.old) l }
-        ensures moves { IfOk result (λ o. standing self.new ≡ moved (standing self.old) (standing self.new).place (standing self.new).tried o.raw) }
+        ensures section { let s = standing self.old in (l : ℕ) → stepped (outline_in (bits_of s.file)) (standing self.new) result ≡ next_section s l }
+        ensures moves { let v = standing self.new in IfOk result (λ o. v ≡ moved (standing self.old) v.place v.tried o.raw) }
     {
         if self.sections >= MOST_SECTIONS {
             return Err(Kind::OverLimit.at(self.end.last));

@@ -80,7 +80,7 @@ fn take_channels(
 impl<'a> Walk<'a> {
     // Takes the raw size of the next section.
     fn take_raw(&self) -> Result<Taken<u32>, Fault>
-        ensures { (l : ℕ) → told (λ v. v) result ≡ (raw_field self.now.raw).reads (bits_of (standing self.now).file) self.now.end.at.bits l }
+        ensures { let s = standing self.now in (l : ℕ) → told (λ v. v) result ≡ (raw_field s.raw).reads (bits_of s.file) s.place l }
     {
         let at = self.end.at;
         let raw = self.source.take_number(at, 32)?;
@@ -95,7 +95,7 @@ impl<'a> Walk<'a> {
 
     // Reads the head of the next section; the channels go to the first rows, at their starting memories.
     pub(crate) fn open(&mut self) -> Result<Taken<Opening>, Fault>
-        ensures head { (l : ℕ) → told (head_in self.new.rows) result ≡ (head (standing self.old).flags self.old.raw).reads (bits_of (standing self.old).file) self.old.end.at.bits l }
+        ensures head { let s = standing self.old in (l : ℕ) → told (head_in self.new.rows) result ≡ (head s.flags s.raw).reads (bits_of s.file) s.place l }
         ensures rest { AtRest (λ o. o.rows) self.new.rows result }
         ensures stays { standing self.new ≡ standing self.old }
     {

@@ -1,14 +1,12 @@
 // Unpacking a whole file.
-ghost use Rattle.std.specs.Prelude.{◌≡◌, ℕ, ◌+◌, ◌*◌, ◌≤◌, Bool, length};
+ghost use Rattle.std.specs.Prelude.{◌≡◌, ◌+◌, ◌*◌, ◌≤◌, length};
 ghost use Rattle.bits.specs.Bits.{bits_of, put_bits};
-ghost use Rattle.format.specs.Format.{Format, got};
-ghost use Rattle.reader.specs.Walks.{standing, all_sections};
+ghost use Rattle.reader.specs.Walks.{standing, AtFirst, all_sections};
 ghost use Rattle.faults.specs.Faults.{answered};
-ghost use Rattle.layout.specs.Turns.{raw_size};
-ghost use Rattle.layout.specs.Slim.{Piece, piece};
+ghost use Rattle.reader.specs.Written.{WritesNext};
 ghost use Rattle.reading.specs.Told.{bits_in};
 ghost use Rattle.reading.specs.Blocks.{bytes_at};
-ghost use Rattle.reader.specs.Unpacking.{section_bytes, unpack_answer, unpack_bytes, Unpacks, RoomFor, body_answer, body_left};
+ghost use Rattle.reader.specs.Unpacking.{unpack_answer, unpack_bytes, Unpacks, RoomFor, body_answer, body_left};
 
 use crate::check::check;
 use crate::walk::Walk;
@@ -36,7 +34,7 @@ fn write_leftovers(source: Source, leftovers: Block, out: &mut [u8], from: u32)
 impl<'a> Walk<'a> {
     // Writes the raw bytes of the next section behind those of the sections that were passed.
     fn write(&mut self, out: &mut [u8])
-        ensures bytes { (room : Bool) (l : ℕ) (x : Piece) (q m : ℕ) → (piece (standing self.old).flags room self.old.raw).reads (bits_of (standing self.old).file) self.old.end.at.bits l ≡ got x q m → self.old.raw + raw_size x.section ≤ length out.old → out.new ≡ put_bits out.old (8 * self.old.raw) (bits_of (section_bytes x.section)) }
+        ensures bytes { WritesNext (standing self.old) out.old out.new }
         ensures stays { standing self.new ≡ standing self.old }
     {
         let Ok(opening) = self.open() else {
@@ -51,7 +49,7 @@ impl<'a> Walk<'a> {
 
     // Writes the raw bytes of all sections, from the first on, and behind them the leftovers, and answers their number.
     fn write_all(&mut self, out: &mut [u8]) -> Result<usize, Fault>
-        requires first { (self.old.sections ≡ 0) × (self.old.raw ≡ 0) }
+        requires first { AtFirst (standing self.old) }
         requires room { RoomFor (all_sections (standing self.old)) (length out.old) }
         ensures answer { answered (λ n. n) result ≡ body_answer (all_sections (standing self.old)) }
         ensures bytes { out.new ≡ body_left (all_sections (standing self.old)) out.old }

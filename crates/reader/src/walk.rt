@@ -7,16 +7,18 @@ use limits::MOST_CHANNELS;
 use reading::source::Source;
 use state::Flags;
 
-// The file and what its head says, where the walk stands behind the sections that were passed, how many these are and their raw bytes,
-// and in the first rows the channels of the section that was last opened.
 #[derive(Clone, Copy)]
 pub(crate) struct Walk<'a> {
     pub(crate) source: Source<'a>,
+    // what the head of the file says
     pub(crate) size: Option<u32>,
     pub(crate) flags: Flags,
+    // behind the sections that were passed
     pub(crate) end: Cursor,
+    // how many these are, and their raw bytes
     pub(crate) sections: u32,
     pub(crate) raw: u32,
+    // in the first rows the channels of the section last opened
     pub(crate) rows: [Channel; MOST_CHANNELS],
     ghost counted: { sections ≤ 64 },
     ghost few: { raw ≤ 16777216 },

@@ -17,8 +17,8 @@ use Rattle.layout.specs.Slim.{any}
 use Rattle.reading.specs.Told.{taking}
 
 -- what a fault of the code says
-pub fault-is : {A : Type 0} (r : Fault) (k : Kind) (at : BitPlace) (o : Outcome A) → r ≡ record { kind = k; place = at } → fault (number_of k) at.bits ≡ o → fault (number_of r.kind) r.place.bits ≡ o
-fault-is r k at o e h = ap (λ (z : Fault). fault (number_of z.kind) z.place.bits) e ∙ h
+pub fault-is : {A : Type 0} {r : Fault} {k : Kind} {at : BitPlace} {o : Outcome A} → r ≡ record { kind = k; place = at } → fault (number_of k) at.bits ≡ o → fault (number_of r.kind) r.place.bits ≡ o
+fault-is e h = ap (λ (z : Fault). fault (number_of z.kind) z.place.bits) e ∙ h
 
 -- ## Looking
 

@@ -10,7 +10,7 @@ use Rattle.reader.proofs.check.check.Goals as goal
 
 pub returns-in_err-walk : goal.returns-in_err-walk
 returns-in_err-walk c = record {
-  answer = handed-on (λ (t : Totals). t) c.from_residual.result c.in_err-walk.field-0.0 _ c.from_residual.ensures.1 (check-no-walk c.args.file.now c.in_err-walk.ensures);
+  answer = handed-on (λ (t : Totals). t) _ _ _ c.from_residual.ensures.1 (check-no-walk c.args.file.now c.in_err-walk.ensures);
   stands = checking_stands;
 }
 
@@ -22,7 +22,7 @@ returns-in_err-totals c =
     let short : length f ≤ 16777216 = subst (λ (g : List ℕ). length g ≤ 16777216) (ap (λ (s : Standing). s.file) same) w.source.small in
     let sections = c.in_err-totals.ensures.totals ∙ ap (λ (s : Standing). seen body_totals (all_sections s)) same in
     record {
-      answer = handed-on (λ (t : Totals). t) c.from_residual-in_err-totals.result c.in_err-totals.field-0.0 _ c.from_residual-in_err-totals.ensures.1
+      answer = handed-on (λ (t : Totals). t) _ _ _ c.from_residual-in_err-totals.ensures.1
           (check-no-sections f short h w.end.at.bits w.end.last.bits (head-back f _ short e) sections);
       stands = checking_stands;
     }

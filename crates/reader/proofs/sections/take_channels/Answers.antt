@@ -14,7 +14,7 @@ use Rattle.reader.proofs.sections.take_channels.Goals as goal
 
 pub returns-in_err-count-clause-rows : goal.returns-in_err-count-clause-rows
 returns-in_err-count-clause-rows c =
-    passed (rows_in _) c.from_residual.result c.in_err-count.field-0.0 _ c.from_residual.ensures.1
+    passed (rows_in _) _ _ _ c.from_residual.ensures.1
     (channels-not (flags c.args.flags) (bits_of c.args.source.bytes.now) c.args.from.at.bits c.args.from.last.bits c.in_err-count.ensures.count)
 
 pub returns : goal.returns

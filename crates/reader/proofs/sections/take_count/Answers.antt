@@ -13,12 +13,12 @@ returns-then-flags-clause-count c = count-single (flags c.args.flags) (bits_of c
 pub returns-in_err-count-clause-count : goal.returns-in_err-count-clause-count
 returns-in_err-count-clause-count c =
     let f : File = bits_of c.args.source.bytes.now in
-    passed (λ n. n) c.from_residual.result c.in_err-count.field-0.0 _ c.from_residual.ensures.1
+    passed (λ n. n) _ _ _ c.from_residual.ensures.1
     (count-not (flags c.args.flags) f c.args.from.at.bits c.args.from.last.bits c.if-flags.false (c.in_err-count.ensures c.args.from.last.bits))
 
 pub returns-then-rows-eq0-clause-count : goal.returns-then-rows-eq0-clause-count
 returns-then-rows-eq0-clause-count c =
-    fault-is c.at.result _ c.args.from.at _ c.at.ensures
+    fault-is c.at.ensures
     (count-off (flags c.args.flags) (bits_of c.args.source.bytes.now) c.args.from.at.bits c.args.from.last.bits c.if-flags.false (c.in_ok-count.ensures c.args.from.last.bits) c.then-rows-eq0.either)
 
 pub returns-clause-count : goal.returns-clause-count

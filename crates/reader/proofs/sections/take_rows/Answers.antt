@@ -19,7 +19,7 @@ returns-in_err-taken-clause-rows c =
     let (so_far, _) = c.loop-row.invariant in
     let i : ℕ = c.loop-row.row-index in
     let inside : i < length c.args.rows.now = omega (arith, c.loop-row-test.true, c.loop-row.auto.rows) in
-    passed (rows_in _) c.from_residual.result c.in_err-taken.field-0.0 _ c.from_residual.ensures.1
+    passed (rows_in _) _ _ _ c.from_residual.ensures.1
     (rows-fault c.args.recorded f (length c.args.rows.now) c.args.from.at.bits c.args.from.last.bits t i c.loop-row.end.at.bits c.loop-row.end.last.bits _ _ inside so_far (c.in_err-taken.ensures.settings c.loop-row.end.last.bits))
 
 pub loop-row-preserved : goal.loop-row-preserved

@@ -13,7 +13,7 @@ returns-in_err-totals c =
     let f : List ℕ = c.args.file.now in
     let out : List ℕ = c.args.out.now in
     let a : answered (λ (n : ℕ). n) c.from_residual.result ≡ unpack_answer f (length out)
-    = handed-on (λ (n : ℕ). n) c.from_residual.result c.in_err-totals.field-0.0 _ c.from_residual.ensures.1 (unread-answer f (length out) _ _ c.in_err-totals.ensures.answer) in
+    = handed-on (λ (n : ℕ). n) _ _ _ c.from_residual.ensures.1 (unread-answer f (length out) _ _ c.in_err-totals.ensures.answer) in
     let b : out ≡ unpack_bytes f out = unread-bytes f out _ _ c.in_err-totals.ensures.answer in
     record { answer = a; bytes = b; accepted = unpacks f out _ out a b }
 

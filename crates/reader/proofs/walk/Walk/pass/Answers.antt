@@ -11,12 +11,12 @@ use Rattle.reader.proofs.Walks.{stopped, next-is, next-not, next-no-head, rest-r
 use Rattle.reader.proofs.walk.Walk.pass.Goals as goal
 
 pub returns-then-self-ge-MOST_SECTIONS-clause-section : goal.returns-then-self-ge-MOST_SECTIONS-clause-section
-returns-then-self-ge-MOST_SECTIONS-clause-section c l = fault-is c.at.result _ c.args.self.now.end.last _ c.at.ensures (next-not (standing c.args.self.now) l c.if-self-ge-MOST_SECTIONS.true)
+returns-then-self-ge-MOST_SECTIONS-clause-section c l = fault-is c.at.ensures (next-not (standing c.args.self.now) l c.if-self-ge-MOST_SECTIONS.true)
 
 pub returns-in_err-opening-clause-section : goal.returns-in_err-opening-clause-section
 returns-in_err-opening-clause-section c l =
     let s : Standing = standing c.args.self.now in
-    stopped (outline_in (bits_of s.file)) (standing c.open.new.self) c.from_residual.result c.in_err-opening.field-0.0 _ c.from_residual.ensures.1
+    stopped (outline_in (bits_of s.file)) (standing c.open.new.self) _ _ _ c.from_residual.ensures.1
     (next-no-head s l c.if-self-ge-MOST_SECTIONS.false (c.in_err-opening.ensures.head l))
 
 pub pass_rest-requires : goal.pass_rest-requires
@@ -29,7 +29,7 @@ pub returns-in_err-passed-clause-section : goal.returns-in_err-passed-clause-sec
 returns-in_err-passed-clause-section c l =
     let s : Standing = standing c.args.self.now in
     let o = c.in_ok-opening.opening in
-    stopped (outline_in (bits_of s.file)) (standing c.open.new.self) c.from_residual-in_err-passed.result c.in_err-passed.field-0.0 _ c.from_residual-in_err-passed.ensures.1
+    stopped (outline_in (bits_of s.file)) (standing c.open.new.self) _ _ _ c.from_residual-in_err-passed.ensures.1
     (rest-read s l (standing c.open.new.self) c.in_ok-opening.ensures.stays (head_in c.open.new.self.rows o.value) o.end.at.bits o.end.last.bits (c.in_ok-opening.ensures.head l) _ c.in_err-passed.ensures
     ∙ next-is s l c.if-self-ge-MOST_SECTIONS.false)
 

@@ -10,7 +10,7 @@ loop-section-init c = all-start (standing c.args.self.now) c.requires.0 c.requir
 pub returns-in_err-section-clause-totals : goal.returns-in_err-section-clause-totals
 returns-in_err-section-clause-totals c =
     let s : Standing = standing c.loop-section.self in
-    stopped (λ (t : Totals). t) (standing c.pass.new.self) c.from_residual.result c.in_err-section.field-0.0 _ c.from_residual.ensures.1
+    stopped (λ (t : Totals). t) (standing c.pass.new.self) _ _ _ c.from_residual.ensures.1
     (all-not s (standing c.args.self.now) c.loop-section.words c.loop-section.invariant _ _ c.loop-section.self.counted (c.in_err-section.ensures.section s.tried))
 
 pub overflow_add-words : goal.overflow_add-words

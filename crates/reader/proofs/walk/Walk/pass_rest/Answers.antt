@@ -16,9 +16,9 @@ returns-in_err-words c =
     let h : Head = head_in c.args.self.now.rows c.args.opening.value in
     let e = c.args.opening.end in
     let (none, same) = nothing-there c.count_words.result c.at.result c.in_err-words.field-0.0 (sym c.in_err-words.was ∙ c.ok_or.ensures.value) in
-    let cut = fault-is c.in_err-words.field-0.0 _ e.last _ (same ∙ c.at.ensures)
+    let cut = fault-is (same ∙ c.at.ensures)
     (rest-cut (has_room (standing c.args.self.now)) h f e.at.bits e.last.bits (count-is h.channels h.raw _ c.requires (sym none ∙ c.count_words.ensures))) in
-    passed (outline_in f) c.from_residual.result c.in_err-words.field-0.0 _ c.from_residual.ensures.1 (ap (seen outline) cut)
+    passed (outline_in f) _ _ _ c.from_residual.ensures.1 (ap (seen outline) cut)
 
 pub returns-in_err-passed : goal.returns-in_err-passed
 returns-in_err-passed c =
@@ -30,7 +30,7 @@ returns-in_err-passed c =
     let some = value_there c.count_words.result c.at.result c.in_ok-words.words (sym c.in_ok-words.was ∙ c.ok_or.ensures.value) in
     let count = count-is h.channels h.raw _ c.requires (sym some ∙ c.count_words.ensures) in
     let w = words-not h.channels bytes e.at.bits e.last.bits c.in_ok-words.words c.requires small _ _ c.in_err-passed.ensures in
-    passed (outline_in f) c.from_residual-in_err-passed.result c.in_err-passed.field-0.0 _ c.from_residual-in_err-passed.ensures.1
+    passed (outline_in f) _ _ _ c.from_residual-in_err-passed.ensures.1
     (ap (seen outline) (rest-no-words (has_room (standing c.args.self.now)) h f e.at.bits e.last.bits count w))
 
 pub returns-in_err-closing : goal.returns-in_err-closing
@@ -44,7 +44,7 @@ returns-in_err-closing c =
     let count = count-is h.channels h.raw _ c.requires (sym some ∙ c.count_words.ensures) in
     let p = c.in_ok-passed.passed in
     let (ws, w, _) = words-on h.channels bytes e.at.bits e.last.bits c.in_ok-words.words c.requires small p.at.bits p.last.bits c.in_ok-passed.ensures in
-    passed (outline_in f) c.from_residual-in_err-closing.result c.in_err-closing.field-0.0 _ c.from_residual-in_err-closing.ensures.1
+    passed (outline_in f) _ _ _ c.from_residual-in_err-closing.ensures.1
     (ap (seen outline) (rest-no-end (has_room (standing c.args.self.now)) h f e.at.bits e.last.bits count w (c.in_err-closing.ensures p.last.bits)))
 
 pub returns-in_err-padding : goal.returns-in_err-padding
@@ -58,7 +58,7 @@ returns-in_err-padding c =
     let count = count-is h.channels h.raw _ c.requires (sym some ∙ c.count_words.ensures) in
     let p = c.in_ok-passed.passed in
     let (ws, w, _) = words-on h.channels bytes e.at.bits e.last.bits c.in_ok-words.words c.requires small p.at.bits p.last.bits c.in_ok-passed.ensures in
-    passed (outline_in f) c.from_residual-in_err-padding.result c.in_err-padding.field-0.0 _ c.from_residual-in_err-padding.ensures.1
+    passed (outline_in f) _ _ _ c.from_residual-in_err-padding.ensures.1
     (ap (seen outline) (rest-no_pads (has_room (standing c.args.self.now)) h f e.at.bits e.last.bits count w (c.in_ok-closing.ensures p.last.bits) c.in_err-padding.ensures))
 
 pub returns-then-not-names_next : goal.returns-then-not-names_next
@@ -74,7 +74,7 @@ returns-then-not-names_next c =
     let end : ℕ = c.in_ok-padding.padding.end.at.bits in
     let (ws, w, _) = words-on h.channels bytes e.at.bits e.last.bits c.in_ok-words.words c.requires small p.at.bits p.last.bits c.in_ok-passed.ensures in
     let name = named f c.in_ok-closing.closing.value h.pointer (end / 8) _ c.if-not-names_next.ensures in
-    ap (seen outline) (fault-is c.at-then-not-names_next.result _ c.in_ok-padding.padding.end.last _ c.at-then-not-names_next.ensures
+    ap (seen outline) (fault-is c.at-then-not-names_next.ensures
     (rest-off (has_room (standing c.args.self.now)) h f e.at.bits e.last.bits count w (c.in_ok-closing.ensures p.last.bits) c.in_ok-padding.ensures name))
 
 pub returns : goal.returns

@@ -8,7 +8,7 @@ use Rattle.reading.proofs.source.Source.take.Goals.{then-count-eq0-via-then-coun
 
 pub returns-then-count-eq0 : goal.returns-then-count-eq0
 returns-then-count-eq0 c l =
-    fault-is c.at.result _ c.args.at _ c.at.ensures
+    fault-is c.at.ensures
     (elim c.then-count-eq0.branch [
       | then-count-eq0-via-then-count-eq0 w ↦ no_bits (bits_of c.args.self.bytes.now) c.args.at.bits c.args.count l w.if-count-eq0.true
       | then-count-eq0-via-else-count-eq0+then-not-remains w ↦ not_left (bits_of c.args.self.bytes.now) c.args.at.bits c.args.count l w.remains.result w.remains.ensures w.if-not-remains.true
@@ -17,8 +17,8 @@ returns-then-count-eq0 c l =
 pub returns-in_err-value : goal.returns-in_err-value
 returns-in_err-value c l =
     let (none, same) = nothing-there c.take_field.result c.at-2.result c.in_err-value.field-0.0 (sym c.in_err-value.was ∙ c.ok_or.ensures.value) in
-    passed (λ v. v) c.from_residual.result c.in_err-value.field-0.0 _ c.from_residual.ensures.1
-    (fault-is c.in_err-value.field-0.0 _ c.args.at _ (same ∙ c.at-2.ensures)
+    passed (λ v. v) _ _ _ c.from_residual.ensures.1
+    (fault-is (same ∙ c.at-2.ensures)
     (too_wide c.args.self.bytes.now c.args.at.bits c.args.count l (sym none ∙ c.take_field.ensures) (sym c.if-not-remains.ensures)))
 
 pub returns : goal.returns

@@ -28,7 +28,7 @@ returns-in_err-pedestal-in-1 c n d b =
     let a = c.args.algorithm in
     let p = c.args.from.at.bits in
     let l = c.args.from.last.bits in
-    passed (with_added n d b a t) c.from_residual.result c.in_err-pedestal-in-1.field-0.0 _ c.from_residual.ensures.1
+    passed (with_added n d b a t) _ _ _ c.from_residual.ensures.1
     (reduced-not n d b a t f p l
     (is-algorithm w t a 1 c.width_of-width.ensures (omega (arith, c.if-width-eq0.false)) c.in-1.is)
     (word-field w t f p l _ c.width_of-width.ensures (omega (arith, c.if-width-eq0.false)) (c.in_err-pedestal-in-1.ensures l)))
@@ -41,7 +41,7 @@ returns-in_err-less-in-1 c n d b =
     let a = c.args.algorithm in
     let p = c.args.from.at.bits in
     let l = c.args.from.last.bits in
-    passed (with_added n d b a t) c.from_residual-in_err-less-in-1.result c.in_err-less-in-1.field-0.0 _ c.from_residual-in_err-less-in-1.ensures.1
+    passed (with_added n d b a t) _ _ _ c.from_residual-in_err-less-in-1.ensures.1
     (reduced-less n d b a t f p l
     (is-algorithm w t a 1 c.width_of-width.ensures (omega (arith, c.if-width-eq0.false)) c.in-1.is)
     (word-field w t f p l _ c.width_of-width.ensures (omega (arith, c.if-width-eq0.false)) (c.in_ok-pedestal-in-1.ensures l))
@@ -78,7 +78,7 @@ returns-in_err-word-in-6 c n d b =
     let a = c.args.algorithm in
     let p = c.args.from.at.bits in
     let l = c.args.from.last.bits in
-    passed (with_added n d b a t) c.from_residual-in_err-word-in-6.result c.in_err-word-in-6.field-0.0 _ c.from_residual-in_err-word-in-6.ensures.1
+    passed (with_added n d b a t) _ _ _ c.from_residual-in_err-word-in-6.ensures.1
     (constant-not n d b a t f p l (six-not-one t a c.in-6.is)
     (is-algorithm w t a 6 c.width_of-width.ensures (omega (arith, c.if-width-eq0.false)) c.in-6.is)
     (word-field w t f p l _ c.width_of-width.ensures (omega (arith, c.if-width-eq0.false)) (c.in_err-word-in-6.ensures l)))

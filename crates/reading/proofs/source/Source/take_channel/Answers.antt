@@ -15,34 +15,34 @@ use Rattle.reading.proofs.source.Source.take_channel.Goals as goal
 
 pub returns-in_err-repeats-clause-settings : goal.returns-in_err-repeats-clause-settings
 returns-in_err-repeats-clause-settings c l =
-    passed settings_of c.from_residual.result c.in_err-repeats.field-0.0 _ c.from_residual.ensures.1
+    passed settings_of _ _ _ c.from_residual.ensures.1
     (no-repeats c.args.recorded (bits_of c.args.self.bytes.now) c.args.at.bits l c.in_err-repeats.ensures)
 
 pub returns-in_err-delta-clause-settings : goal.returns-in_err-delta-clause-settings
 returns-in_err-delta-clause-settings c l =
-    passed settings_of c.from_residual-in_err-delta.result c.in_err-delta.field-0.0 _ c.from_residual-in_err-delta.ensures.1
+    passed settings_of _ _ _ c.from_residual-in_err-delta.ensures.1
     (no-delta c.args.recorded (bits_of c.args.self.bytes.now) c.args.at.bits l c.in_ok-repeats.ensures (c.in_err-delta.ensures _))
 
 pub returns-in_err-turn-clause-settings : goal.returns-in_err-turn-clause-settings
 returns-in_err-turn-clause-settings c l =
-    passed settings_of c.from_residual-in_err-turn.result c.in_err-turn.field-0.0 _ c.from_residual-in_err-turn.ensures.1
+    passed settings_of _ _ _ c.from_residual-in_err-turn.ensures.1
     (no-turn c.args.recorded (bits_of c.args.self.bytes.now) c.args.at.bits l c.in_ok-repeats.ensures (c.in_ok-delta.ensures _) (c.in_err-turn.ensures _))
 
 pub returns-in_err-algorithm-clause-settings : goal.returns-in_err-algorithm-clause-settings
 returns-in_err-algorithm-clause-settings c l =
-    passed settings_of c.from_residual-in_err-algorithm.result c.in_err-algorithm.field-0.0 _ c.from_residual-in_err-algorithm.ensures.1
+    passed settings_of _ _ _ c.from_residual-in_err-algorithm.ensures.1
     (no-algorithm c.args.recorded (bits_of c.args.self.bytes.now) c.args.at.bits l c.in_ok-repeats.ensures (c.in_ok-delta.ensures _) (c.in_ok-turn.ensures _)
     (c.in_err-algorithm.ensures _))
 
 pub returns-in_err-kind-clause-settings : goal.returns-in_err-kind-clause-settings
 returns-in_err-kind-clause-settings c l =
-    passed settings_of c.from_residual-in_err-kind.result c.in_err-kind.field-0.0 _ c.from_residual-in_err-kind.ensures.1
+    passed settings_of _ _ _ c.from_residual-in_err-kind.ensures.1
     (no_kind c.args.recorded (bits_of c.args.self.bytes.now) c.args.at.bits l c.in_ok-repeats.ensures (c.in_ok-delta.ensures _) (c.in_ok-turn.ensures _)
     (c.in_ok-algorithm.ensures _) (c.in_err-kind.ensures _))
 
 pub returns-in_err-added-clause-settings : goal.returns-in_err-added-clause-settings
 returns-in_err-added-clause-settings c l =
-    passed settings_of c.from_residual-in_err-added.result c.in_err-added.field-0.0 _ c.from_residual-in_err-added.ensures.1
+    passed settings_of _ _ _ c.from_residual-in_err-added.ensures.1
     (no-added c.args.recorded (bits_of c.args.self.bytes.now) c.args.at.bits l c.in_ok-repeats.ensures (c.in_ok-delta.ensures _) (c.in_ok-turn.ensures _)
     (c.in_ok-algorithm.ensures _) (c.in_ok-kind.ensures _)
     (c.in_err-added.ensures c.in_ok-repeats.repeats.value c.in_ok-delta.delta.value c.in_ok-turn.turn.value))
@@ -57,8 +57,8 @@ returns-in_err-row-clause-settings c l =
     let (e, was, is) = row-unmade _ c.channel.result c.map_err.result c.in_err-row.field-0.0 (sym c.in_err-row.was) c.map_err.ensures.cases in
     let bad : c.in_err-row.field-0.0 ≡ record { kind = BadSetting; place = x.end.last } = search (of_calls, is) in
     let unruled = unmade s _ _ (ap (answered parts) (sym was) ∙ c.channel.ensures) in
-    passed settings_of c.from_residual-in_err-row.result c.in_err-row.field-0.0 _ c.from_residual-in_err-row.ensures.1
-    (fault-is c.in_err-row.field-0.0 _ x.end.last _ bad
+    passed settings_of _ _ _ c.from_residual-in_err-row.ensures.1
+    (fault-is bad
     (refused c.args.recorded (bits_of c.args.self.bytes.now) c.args.at.bits l c.in_ok-repeats.ensures (c.in_ok-delta.ensures _) (c.in_ok-turn.ensures _)
     (c.in_ok-algorithm.ensures _) (c.in_ok-kind.ensures _) (c.in_ok-added.ensures n d b) unruled))
 

@@ -12,7 +12,7 @@ use Rattle.reading.proofs.source.Source.take_closing.Goals as goal
 pub returns-in_err-tag : goal.returns-in_err-tag
 returns-in_err-tag c l =
     let f : File = bits_of c.args.self.bytes.now in
-    passed (closing_of f) c.from_residual.result c.in_err-tag.field-0.0 _ c.from_residual.ensures.1 (no-tag f c.args.at.bits l (c.in_err-tag.ensures l))
+    passed (closing_of f) _ _ _ c.from_residual.ensures.1 (no-tag f c.args.at.bits l (c.in_err-tag.ensures l))
 
 pub returns-in-8 : goal.returns-in-8
 returns-in-8 c l =
@@ -31,6 +31,6 @@ returns-in-14 c l = ends_with (bits_of c.args.self.bytes.now) c.args.at.bits l (
 
 pub returns-in_default : goal.returns-in_default
 returns-in_default c l =
-    fault-is c.at.result _ c.args.at _ c.at.ensures
+    fault-is c.at.ensures
     (bad-tag (bits_of c.args.self.bytes.now) c.args.at.bits l (c.in_ok-tag.ensures l)
     (other_tag c.in_ok-tag.tag.value (λ h. omega arith) (λ h. omega arith) (λ h. omega arith)))

@@ -10,7 +10,7 @@ use Rattle.reading.proofs.source.Source.take_extra.Goals as goal
 
 pub returns-in_err-count-clause-bytes : goal.returns-in_err-count-clause-bytes
 returns-in_err-count-clause-bytes c l =
-    passed (part_bytes c.args.self.bytes.now) c.from_residual.result c.in_err-count.field-0.0 _ c.from_residual.ensures.1 (no-extra-count (bits_of c.args.self.bytes.now) c.args.at.bits l (c.in_err-count.ensures l))
+    passed (part_bytes c.args.self.bytes.now) _ _ _ c.from_residual.ensures.1 (no-extra-count (bits_of c.args.self.bytes.now) c.args.at.bits l (c.in_err-count.ensures l))
 
 pub returns-then-part-eq0 : goal.returns-then-part-eq0
 returns-then-part-eq0 c =
@@ -27,7 +27,7 @@ take_block-requires c =
 
 pub returns-in_err-block-clause-bytes : goal.returns-in_err-block-clause-bytes
 returns-in_err-block-clause-bytes c l =
-    passed (part_bytes c.args.self.bytes.now) c.from_residual-in_err-block.result c.in_err-block.field-0.0 _ c.from_residual-in_err-block.ensures.1
+    passed (part_bytes c.args.self.bytes.now) _ _ _ c.from_residual-in_err-block.ensures.1
     (some-extra (bits_of c.args.self.bytes.now) c.args.at.bits l (c.in_ok-count.ensures l) c.if-part-eq0.false (c.in_err-block.ensures _))
 
 pub returns : goal.returns

@@ -15,31 +15,31 @@ use Rattle.reading.proofs.source.Source.take_head.Goals as goal
 pub returns-in_err-magic-clause-head : goal.returns-in_err-magic-clause-head
 returns-in_err-magic-clause-head c =
     let f : File = bits_of c.args.self.bytes.now in
-    passed (head_in c.args.self.bytes.now) c.from_residual.result c.in_err-magic.field-0.0 _ c.from_residual.ensures.1 (no_magic f (at-start f c.new-start.result.bits _ c.new-start.ensures (c.in_err-magic.ensures 0)))
+    passed (head_in c.args.self.bytes.now) _ _ _ c.from_residual.ensures.1 (no_magic f (at-start f c.new-start.result.bits _ c.new-start.ensures (c.in_err-magic.ensures 0)))
 
 pub returns-then-magic-ne-MAGIC-clause-head : goal.returns-then-magic-ne-MAGIC-clause-head
 returns-then-magic-ne-MAGIC-clause-head c =
     let f : File = bits_of c.args.self.bytes.now in
     let e₁ = at-start f c.new-start.result.bits _ c.new-start.ensures (c.in_ok-magic.ensures 0) in
-    fault-is c.at.result _ c.new-start.result _ c.at.ensures (ap (λ (p : ℕ). fault 12 p) c.new-start.ensures ∙ wrong_magic f e₁ c.if-magic-ne-MAGIC.true)
+    fault-is c.at.ensures (ap (λ (p : ℕ). fault 12 p) c.new-start.ensures ∙ wrong_magic f e₁ c.if-magic-ne-MAGIC.true)
 
 pub returns-in_err-stamp-clause-head : goal.returns-in_err-stamp-clause-head
 returns-in_err-stamp-clause-head c =
     let f : File = bits_of c.args.self.bytes.now in
     let e₁ = at-start f c.new-start.result.bits _ c.new-start.ensures (c.in_ok-magic.ensures 0) in
-    passed (head_in c.args.self.bytes.now) c.from_residual-in_err-stamp.result c.in_err-stamp.field-0.0 _ c.from_residual-in_err-stamp.ensures.1 (no-stamp f e₁ c.if-magic-ne-MAGIC.false (c.in_err-stamp.ensures _))
+    passed (head_in c.args.self.bytes.now) _ _ _ c.from_residual-in_err-stamp.ensures.1 (no-stamp f e₁ c.if-magic-ne-MAGIC.false (c.in_err-stamp.ensures _))
 
 pub returns-in_err-flags-clause-head : goal.returns-in_err-flags-clause-head
 returns-in_err-flags-clause-head c =
     let f : File = bits_of c.args.self.bytes.now in
     let e₁ = at-start f c.new-start.result.bits _ c.new-start.ensures (c.in_ok-magic.ensures 0) in
-    passed (head_in c.args.self.bytes.now) c.from_residual-in_err-flags.result c.in_err-flags.field-0.0 _ c.from_residual-in_err-flags.ensures.1 (no-flags f e₁ c.if-magic-ne-MAGIC.false (c.in_ok-stamp.ensures _) (c.in_err-flags.ensures _))
+    passed (head_in c.args.self.bytes.now) _ _ _ c.from_residual-in_err-flags.ensures.1 (no-flags f e₁ c.if-magic-ne-MAGIC.false (c.in_ok-stamp.ensures _) (c.in_err-flags.ensures _))
 
 pub returns-then-flags-ge64-clause-head : goal.returns-then-flags-ge64-clause-head
 returns-then-flags-ge64-clause-head c =
     let f : File = bits_of c.args.self.bytes.now in
     let e₁ = at-start f c.new-start.result.bits _ c.new-start.ensures (c.in_ok-magic.ensures 0) in
-    fault-is c.at-then-flags-ge64.result _ c.in_ok-stamp.stamp.end.at _ c.at-then-flags-ge64.ensures (bad-flags f e₁ c.if-magic-ne-MAGIC.false (c.in_ok-stamp.ensures _) (c.in_ok-flags.ensures _) c.if-flags-ge64.true)
+    fault-is c.at-then-flags-ge64.ensures (bad-flags f e₁ c.if-magic-ne-MAGIC.false (c.in_ok-stamp.ensures _) (c.in_ok-flags.ensures _) c.if-flags-ge64.true)
 
 pub returns-in_err-size-clause-head : goal.returns-in_err-size-clause-head
 returns-in_err-size-clause-head c =
@@ -47,7 +47,7 @@ returns-in_err-size-clause-head c =
     let e₁ = at-start f c.new-start.result.bits _ c.new-start.ensures (c.in_ok-magic.ensures 0) in
     let g : ℕ = c.in_ok-flags.flags.value in
     let size = flagged-size f (flag 0 g) c.in_ok-flags.flags.end _ (Err c.in_err-size.field-0.0) (λ e. c.in_err-size.ensures.absent (c.is_set-sized.ensures ∙ e)) (λ e. c.in_err-size.ensures.present (c.is_set-sized.ensures ∙ e)) (λ x m. search (of_calls, m)) in
-    passed (head_in c.args.self.bytes.now) c.from_residual-in_err-size.result c.in_err-size.field-0.0 _ c.from_residual-in_err-size.ensures.1
+    passed (head_in c.args.self.bytes.now) _ _ _ c.from_residual-in_err-size.ensures.1
     (no_size f e₁ c.if-magic-ne-MAGIC.false (c.in_ok-stamp.ensures _) (c.in_ok-flags.ensures _) c.if-flags-ge64.false size)
 
 pub take_flagged-requires-2 : goal.take_flagged-requires-2
@@ -68,7 +68,7 @@ returns-in_err-name-clause-head c =
     let g : ℕ = c.in_ok-flags.flags.value in
     let size = flagged-size f (flag 0 g) c.in_ok-flags.flags.end _ (Ok c.in_ok-size.size) (λ e. c.in_ok-size.ensures.absent (c.is_set-sized.ensures ∙ e)) (λ e. c.in_ok-size.ensures.present (c.is_set-sized.ensures ∙ e)) (λ x m. search (of_calls, m)) in
     let name = flagged-part file (name_bytes 255) (flag 1 g) c.in_ok-size.size.end _ (Err c.in_err-name.field-0.0) (λ e. c.in_err-name.ensures.absent (c.is_set-named.ensures ∙ e)) (λ e. c.in_err-name.ensures.present (c.is_set-named.ensures ∙ e)) (λ x m. search (of_calls, m)) in
-    passed (head_in file) c.from_residual-in_err-name.result c.in_err-name.field-0.0 _ c.from_residual-in_err-name.ensures.1
+    passed (head_in file) _ _ _ c.from_residual-in_err-name.ensures.1
     (no_name f e₁ c.if-magic-ne-MAGIC.false (c.in_ok-stamp.ensures _) (c.in_ok-flags.ensures _) c.if-flags-ge64.false size name)
 
 pub take_flagged-requires-3 : goal.take_flagged-requires-3
@@ -92,7 +92,7 @@ returns-in_err-extra-clause-head c =
     let size = flagged-size f (flag 0 g) c.in_ok-flags.flags.end _ (Ok c.in_ok-size.size) (λ e. c.in_ok-size.ensures.absent (c.is_set-sized.ensures ∙ e)) (λ e. c.in_ok-size.ensures.present (c.is_set-sized.ensures ∙ e)) (λ x m. search (of_calls, m)) in
     let name = flagged-part file (name_bytes 255) (flag 1 g) c.in_ok-size.size.end _ (Ok c.in_ok-name.name) (λ e. c.in_ok-name.ensures.absent (c.is_set-named.ensures ∙ e)) (λ e. c.in_ok-name.ensures.present (c.is_set-named.ensures ∙ e)) (λ x m. search (of_calls, m)) in
     let extra = flagged-part file extra_bytes (flag 2 g) c.in_ok-name.name.end _ (Err c.in_err-extra.field-0.0) (λ e. c.in_err-extra.ensures.absent (c.is_set-extended.ensures ∙ e)) (λ e. c.in_err-extra.ensures.present (c.is_set-extended.ensures ∙ e)) (λ x m. search (of_calls, m)) in
-    passed (head_in file) c.from_residual-in_err-extra.result c.in_err-extra.field-0.0 _ c.from_residual-in_err-extra.ensures.1
+    passed (head_in file) _ _ _ c.from_residual-in_err-extra.ensures.1
     (no_extra f e₁ c.if-magic-ne-MAGIC.false (c.in_ok-stamp.ensures _) (c.in_ok-flags.ensures _) c.if-flags-ge64.false size name extra)
 
 pub returns : goal.returns

@@ -10,11 +10,11 @@ use Rattle.reading.proofs.source.Source.take_leftovers.Goals as goal
 pub returns-in_err-count : goal.returns-in_err-count
 returns-in_err-count c l =
     let f : File = bits_of c.args.self.bytes.now in
-    passed (closing_of f) c.from_residual.result c.in_err-count.field-0.0 _ c.from_residual.ensures.1 (no-count f c.args.at.bits l (c.in_err-count.ensures l))
+    passed (closing_of f) _ _ _ c.from_residual.ensures.1 (no-count f c.args.at.bits l (c.in_err-count.ensures l))
 
 pub returns-then-count-eq0 : goal.returns-then-count-eq0
 returns-then-count-eq0 c l =
-    fault-is c.at.result _ c.args.at _ c.at.ensures
+    fault-is c.at.ensures
     (zero-count (bits_of c.args.self.bytes.now) c.args.at.bits l (c.in_ok-count.ensures l) c.if-count-eq0.true)
 
 pub take_block-requires : goal.take_block-requires
@@ -26,7 +26,7 @@ take_block-requires c =
 pub returns-in_err-leftovers : goal.returns-in_err-leftovers
 returns-in_err-leftovers c l =
     let f : File = bits_of c.args.self.bytes.now in
-    passed (closing_of f) c.from_residual-in_err-leftovers.result c.in_err-leftovers.field-0.0 _ c.from_residual-in_err-leftovers.ensures.1
+    passed (closing_of f) _ _ _ c.from_residual-in_err-leftovers.ensures.1
     (no-leftovers f c.args.at.bits l (c.in_ok-count.ensures l) (omega (arith, c.if-count-eq0.false)) (c.in_err-leftovers.ensures _))
 
 pub returns : goal.returns

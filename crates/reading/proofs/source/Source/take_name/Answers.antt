@@ -15,7 +15,7 @@ loop-len-init c = (omega arith, name-begins 255 (bits_of c.args.self.bytes.now) 
 pub returns-in_err-byte-clause-bytes : goal.returns-in_err-byte-clause-bytes
 returns-in_err-byte-clause-bytes c l =
     let f : File = bits_of c.args.self.bytes.now in
-    passed (part_bytes c.args.self.bytes.now) c.from_residual.result c.in_err-byte.field-0.0 _ c.from_residual.ensures.1
+    passed (part_bytes c.args.self.bytes.now) _ _ _ c.from_residual.ensures.1
     (name_faults f c.loop-len.place.bits 0 _ _ (255 - c.loop-len.len) _ (bytes c.loop-len.len (drop c.args.at.bits f)) (c.in_err-byte.ensures 0) c.loop-len.invariant.1 ∙ name-last 255 f c.args.at.bits l c.args.at.bits)
 
 pub returns-then-byte-eq0 : goal.returns-then-byte-eq0
@@ -40,14 +40,14 @@ loop-len-preserved c =
 pub returns-in_err-end-clause-bytes : goal.returns-in_err-end-clause-bytes
 returns-in_err-end-clause-bytes c l =
     let f : File = bits_of c.args.self.bytes.now in
-    passed (part_bytes c.args.self.bytes.now) c.from_residual-in_err-end.result c.in_err-end.field-0.0 _ c.from_residual-in_err-end.ensures.1
+    passed (part_bytes c.args.self.bytes.now) _ _ _ c.from_residual-in_err-end.ensures.1
     (name_faults f c.loop-len.place.bits 0 _ _ (255 - c.loop-len.len) _ (bytes c.loop-len.len (drop c.args.at.bits f)) (c.in_err-end.ensures 0) c.loop-len.invariant.1 ∙ name-last 255 f c.args.at.bits l c.args.at.bits)
 
 pub returns-then-end-ne0-clause-bytes : goal.returns-then-end-ne0-clause-bytes
 returns-then-end-ne0-clause-bytes c l =
     let f : File = bits_of c.args.self.bytes.now in
     let t = c.in_ok-end.end in
-    fault-is c.at.result _ c.loop-len.place _ c.at.ensures
+    fault-is c.at.ensures
     (name-long 255 255 f c.loop-len.place.bits 0 t.value t.end.at.bits t.end.last.bits _ (bytes c.loop-len.len (drop c.args.at.bits f)) (255 - c.loop-len.len) (omega (arith, c.loop-len-test.false)) (c.in_ok-end.ensures 0) c.if-end-ne0.true c.loop-len.invariant.1
     ∙ name-last 255 f c.args.at.bits l c.args.at.bits)
 

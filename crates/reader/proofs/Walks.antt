@@ -4,19 +4,22 @@ use borrow.Author.Tests.{ltb-true, ltb-false}
 use Rattle.std.proofs.lemmas.Bool.{lt-ltb, le-ltb}
 use Rattle.bits.specs.Bits.{bits_of}
 use Rattle.faults.specs.Faults.{number_of}
+use Rattle.faults.specs.declared.kind.Kind.TheVariants.{WrongLength}
 use Rattle.faults.specs.declared.kind.Fault.{Fault}
 use Rattle.format.specs.Format.{Outcome, got, fault}
 use Rattle.format.proofs.Laws.{faulted}
 use Rattle.layout.specs.Slim as slim
 use Rattle.layout.specs.Slim.{piece}
 use Rattle.reading.specs.Heads as heads
+use Rattle.reading.proofs.Looks.{fault-is}
+use Rattle.reader.specs.declared.walk.Walk.{Walk}
 use Rattle.reader.specs.Sections.{Head, head, rest}
 use Rattle.reading.specs.declared.block.Block.{Block}
 use Rattle.reading.specs.declared.closing.Closing.TheVariants.{Another, Ended}
 use Rattle.reading.specs.Blocks.{closing_of}
 use Rattle.reader.specs.declared.outline.Outline.{Outline}
 use Rattle.reader.specs.Counts.{seen, outline, outline_in, body_totals}
-use Rattle.reader.specs.Walks.{Standing, has_room, head_read, next_section, all_sections, moved, stepped}
+use Rattle.reader.specs.Walks.{Standing, has_room, Begins, head_read, next_section, all_sections, moved, stepped}
 use Rattle.reader.proofs.Passed.{section-no-head, section-rest, onward, onward-start, onward-end, pass-not, pass-bounds, pass-ended, pass-another}
 
 -- a fault that is handed on
@@ -29,6 +32,17 @@ pub head-is : (f : List ℕ) (o : Outcome heads.Head) → length f ≤ 16777216 
 head-is f o few e =
     let t : ltb 16777216 (length f) ≡ false = le-ltb 16777216 (length f) few in
     e ∙ ap (λ (x : Bool). cond x (fault 1 0) ((heads.head).reads (bits_of f) 0 0)) (sym t)
+
+-- the head of one that is too long
+pub head-long : (f : List ℕ) {e : Fault} → 16777216 < length f → e ≡ record { kind = WrongLength; place = record { bits = 0 } } → fault (number_of e.kind) e.place.bits ≡ head_read f
+head-long f many e =
+    let t : ltb 16777216 (length f) ≡ true = lt-ltb 16777216 (length f) many in
+    fault-is e (ap (λ (x : Bool). cond x (fault 1 0) ((heads.head).reads (bits_of f) 0 0)) (sym t))
+
+-- a walk that does not begin
+pub not_begun : (f : List ℕ) (r : Result Walk Fault) (e : Fault) → IsErrAnd r (λ x. x ≡ e) → fault (number_of e.kind) e.place.bits ≡ head_read f → Begins f r
+not_begun f (Ok w) e h d = absurd h
+not_begun f (Err x) e h d = ap (λ (z : Fault). fault (number_of z.kind) z.place.bits) h ∙ d
 
 pub head-back : (f : List ℕ) (o : Outcome heads.Head) → length f ≤ 16777216 → o ≡ head_read f → o ≡ (heads.head).reads (bits_of f) 0 0
 head-back f o few e =

@@ -25,7 +25,7 @@ impl<'a> Walk<'a> {
         requires there { HasSection (all_sections (standing self.old)) section }
         ensures { Found (section_in (all_sections (standing self.old)) section) self.new.rows result }
     {
-        for before in 0..section {
+        for _ in 0..section {
             self.pass()?;
         }
         self.open()

@@ -5,8 +5,8 @@ ghost use Rattle.reader.specs.Walks.{Begins};
 
 use crate::walk::Walk;
 use channel::record::Channel;
-use faults::kind::{Fault, Kind};
-use limits::{MOST_BYTES, MOST_CHANNELS};
+use faults::kind::Fault;
+use limits::MOST_CHANNELS;
 use reading::flagged::Flag;
 use reading::source::Source;
 use state::Flags;
@@ -28,10 +28,7 @@ impl<'a> Walk<'a> {
     pub(crate) fn start(file: &'a [u8]) -> Result<Walk<'a>, Fault>
         ensures { Begins file.now result }
     {
-        if file.len() > MOST_BYTES {
-            return Err(Kind::WrongLength.at_start());
-        }
-        let source = Source { bytes: file };
+        let source = Source::new(file)?;
         let head = source.take_head()?;
         Ok(Walk {
             source,

@@ -1,4 +1,5 @@
 pub mod Told
+pub mod Sources
 pub mod Flags
 pub mod Descriptions
 pub mod Blocks

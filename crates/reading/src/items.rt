@@ -11,8 +11,7 @@ ghost use Rattle.reading.specs.Items.{said, said_part, handed, head_answer, item
 use crate::item::{Head, Item};
 use crate::part::Part;
 use crate::source::Source;
-use faults::kind::{Fault, Kind};
-use limits::MOST_BYTES;
+use faults::kind::Fault;
 
 // The item of a number that may be absent. A match, since the check takes no `map` here: the item's lifetime comes from no argument.
 fn number_item<'a>(number: Option<u32>) -> Option<Item<'a>>
@@ -41,10 +40,7 @@ pub fn head(file: &[u8]) -> Result<Head<'_>, Fault>
     ensures extra { IfOk result (λ h. StandsAt file.now (extra_byte h) h.extra) }
     ensures accepted { (x : Recording) → Gives file.now x → answered handed result ≡ gives (items_of (head_of x)) }
 {
-    if file.len() > MOST_BYTES {
-        return Err(Kind::WrongLength.at_start());
-    }
-    let source = Source { bytes: file };
+    let source = Source::new(file)?;
     let front = source.take_head()?.value;
     Ok(Head {
         stamp: Item::Number(front.stamp),

@@ -3,23 +3,23 @@ use Rattle.reader.specs.Walks.{Standing, standing}
 use Rattle.reader.proofs.Finding.{sought-start, sought-passes, sought-on, sought_found}
 use Rattle.reader.proofs.walk.Walk.find.Goals as goal
 
-pub loop-before-init : goal.loop-before-init
-loop-before-init c = (sought-start (standing c.args.self.now) c.args.section c.requires.first.0 c.requires.first.1 c.requires.there, c.requires.first.0)
+pub loop-init : goal.loop-init
+loop-init c = (sought-start (standing c.args.self.now) c.args.section c.requires.first.0 c.requires.first.1 c.requires.there, c.requires.first.0)
 
 pub returns-in_err-pass : goal.returns-in_err-pass
 returns-in_err-pass c =
-    let (w, many) = c.loop-before.invariant in
-    absurd (sought-passes (standing c.loop-before.self) (standing c.args.self.now) c.args.section w (omega (arith, many, c.loop-before-test.true)) _ _ (c.in_err-pass.ensures.section 0))
+    let (w, many) = c.loop.invariant in
+    absurd (sought-passes (standing c.loop.self) (standing c.args.self.now) c.args.section w (omega (arith, many, c.loop-test.true)) _ _ (c.in_err-pass.ensures.section 0))
 
-pub loop-before-preserved : goal.loop-before-preserved
-loop-before-preserved c =
-    let (w, many) = c.loop-before.invariant in
-    let less : c.loop-before.self.sections < c.args.section = omega (arith, many, c.loop-before-test.true) in (
-      sought-on (standing c.loop-before.self) (standing c.args.self.now) c.args.section w less (standing c.pass.new.self) c.in_ok-pass.field-0 (c.in_ok-pass.ensures.section 0) c.in_ok-pass.ensures.moves,
+pub loop-preserved : goal.loop-preserved
+loop-preserved c =
+    let (w, many) = c.loop.invariant in
+    let less : c.loop.self.sections < c.args.section = omega (arith, many, c.loop-test.true) in (
+      sought-on (standing c.loop.self) (standing c.args.self.now) c.args.section w less (standing c.pass.new.self) c.in_ok-pass.field-0 (c.in_ok-pass.ensures.section 0) c.in_ok-pass.ensures.moves,
       ap (λ (z : Standing). z.sections) c.in_ok-pass.ensures.moves ∙ ap (λ (n : ℕ). n + 1) many,
     )
 
 pub returns : goal.returns
 returns c =
-    let (w, many) = c.loop-before.invariant in
-    sought_found (standing c.loop-before.self) (standing c.args.self.now) c.args.section w (omega (arith, many, c.loop-before-test.false, c.loop-before.auto.before-end)) c.open.new.self.rows c.open.result (c.open.ensures.head 0) c.open.ensures.rest
+    let (w, many) = c.loop.invariant in
+    sought_found (standing c.loop.self) (standing c.args.self.now) c.args.section w (omega (arith, many, c.loop-test.false, c.loop.auto.counter-end)) c.open.new.self.rows c.open.result (c.open.ensures.head 0) c.open.ensures.rest

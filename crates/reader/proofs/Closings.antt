@@ -1,5 +1,5 @@
 -- What closes a section, as it is taken.
-use Rattle.std.proofs.Common.{◌≡◌, ℕ, ◌+◌, ◌-◌, ◌*◌, ◌/◌, ◌%◌, ◌^◌, ◌<◌, ◌≤◌, min, Bool, true, false, cond, not, ◌||◌, List, length, Option, sym, refl, ap, ◌∙◌, arith, le-leb}
+use Rattle.std.proofs.Common.{◌≡◌, ℕ, ◌+◌, ◌-◌, ◌*◌, ◌/◌, ◌%◌, ◌^◌, ◌<◌, ◌≤◌, min, Bool, true, false, cond, not, ◌||◌, ◌⊎◌, inl, inr, List, length, Option, sym, refl, ap, ◌∙◌, arith, le-leb}
 use borrow.Author.Tests.{lt-leb}
 use Rattle.bits.specs.Bits.{bits_of}
 use Rattle.bits.proofs.Files.{length-bits_of}
@@ -49,6 +49,10 @@ module _ (f : File) (p l : ℕ) (room : Bool) where
 
   pub end-last : {q m : ℕ} (e : Closing) → got (closing_of f e) q m ≡ closing.reads f p l → follows e ≡ false → got (closing_of f e) q m ≡ End.reads f p l
   end-last e h g = judged-on _ _ _ h (at-end (goes_on (closing_of f e)) room (goes_on-is f e ∙ g))
+
+  pub end-fits : {q m : ℕ} (e : Closing) {t : Bool} → got (closing_of f e) q m ≡ closing.reads f p l → t ≡ follows e → ((t ≡ true) × (room ≡ true)) ⊎ (t ≡ false) → got (closing_of f e) q m ≡ End.reads f p l
+  end-fits e h t (inl (_, r)) = end-room (closing_of f e) h r
+  end-fits e h t (inr z) = end-last e h (sym t ∙ z)
 
 -- ## Pad bits
 

@@ -1,5 +1,5 @@
 -- A file that was accepted is read again, and the section that is described is found.
-use Rattle.std.proofs.Common.{◌≡◌, ℕ, ◌*◌, ◌<◌, ◌≤◌, Bool, true, false, cond, eqb, ltb, List, [], ◌∷◌, ◌++◌, map, length, take, drop, sym, refl, ap, ◌∙◌, subst, arith, length-take}
+use Rattle.std.proofs.Common.{◌≡◌, ℕ, ◌*◌, ◌<◌, ◌≤◌, Bool, true, false, cond, eqb, ltb, List, [], ◌∷◌, ◌++◌, map, length, take, drop, sym, refl, ap, ◌∙◌, subst, arith}
 use lib.ListN.{length-map}
 use Rattle.std.proofs.lemmas.List.{take-append-le, take_all}
 use Rattle.std.proofs.lemmas.Bool.{lt-ltb, le-ltb, ltb-false, lt-leb}
@@ -139,10 +139,6 @@ settings-again s = same s.channels
     same : (cs : List recordings.Channel) → settings (map row_of cs) ≡ cs
     same [] = refl
     same (c ∷ cs) = ap (λ ds. c ∷ ds) (same cs)
-
--- the rows of a section that was read are all there
-pub few-rows : (n : ℕ) (t : List Channel) (cs : List recordings.Channel) → n ≡ length cs → take n t ≡ map row_of cs → n ≤ length t
-few-rows n t cs e d = omega (arith, e, sym (length-take n t) ∙ ap length d ∙ length-map cs row_of)
 
 holds : (f : List ℕ) (i : ℕ) (t : List Channel) → HoldsSection f i (length t) (describe_table f i t)
 holds f i t r (p, l, e) less room =

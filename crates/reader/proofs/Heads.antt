@@ -1,12 +1,18 @@
 -- The fields of a section's head, as they are taken.
-use Rattle.std.proofs.Common.{◌≡◌, ℕ, ◌+◌, ◌<◌, ◌≤◌, Bool, true, false, ◌&&◌, leb, ◌⊎◌, List, Some, None, Option, refl, ap, inl, inr, le-leb}
+use Rattle.std.proofs.Common.{◌≡◌, ℕ, ◌+◌, ◌<◌, ◌≤◌, Bool, true, false, ◌&&◌, leb, ◌⊎◌, List, Some, None, Ok, Err, Option, Result, refl, ap, inl, inr, le-leb}
 use borrow.Author.Tests.{lt-leb}
 use Rattle.std.proofs.lemmas.Bool.{lt-ltb}
+use Rattle.fields.specs.declared.place.Cursor.{Cursor}
+use Rattle.faults.specs.declared.kind.Fault.{Fault}
 use Rattle.format.specs.Cells.{File}
 use Rattle.format.specs.Format.{Outcome, got, fault, field, whole, times}
 use Rattle.layout.specs.Recording.{Channel}
 use Rattle.layout.specs.Slim.{Flags, any, positive, most_bytes, most_channels, channel_count, recorded, channel}
 use Rattle.calls.specs.Parts.{described}
+use Rattle.reading.specs.declared.taken.Taken.{Taken}
+use Rattle.reading.specs.Told.{told}
+use Rattle.reading.specs.Flags.{absent, some, Present}
+use Rattle.reading.proofs.Optional.{optional-told}
 use Rattle.reading.proofs.Steps.{then-on, then-not, whole-on, choose-on, choose-off, judged-on, judged-off, judged-not, field-on, field_off, field-not}
 use Rattle.reader.specs.Sections.{raw_field, pointer_field, head}
 
@@ -43,6 +49,16 @@ module _ (f : File) (p l : ℕ) where
   pub pointer-on : {v q m : ℕ} (t : Bool) → t ≡ true → got v q m ≡ (field 32 any 0).reads f p l → got (Some v) q m ≡ (pointer_field t).reads f p l
   unfolding pointer_field
   pointer-on t e h = rw e (then-on _ _ h (whole-on _ _ _ _))
+
+module _ (f : File) (t : Bool) (from : Cursor) where
+  -- the answer of a call that takes the number, where the pointer is flagged
+  pointer-told : (x : Result (Taken ℕ) Fault) → t ≡ true → told (λ v. v) x ≡ (field 32 any 0).reads f from.at.bits from.last.bits → told (λ z. z) (some x) ≡ (pointer_field t).reads f from.at.bits from.last.bits
+  pointer-told (Ok y) e h = pointer-on f from.at.bits from.last.bits t e h
+  pointer-told (Err y) e h = pointer-not f from.at.bits from.last.bits t e h
+
+  pub flagged-pointer : (P : Result (Taken ℕ) Fault → Type 0) (r : Result (Taken (Option ℕ)) Fault) → (t ≡ false → r ≡ absent from) → (t ≡ true → Present P r) →
+      ((x : Result (Taken ℕ) Fault) → P x → told (λ v. v) x ≡ (field 32 any 0).reads f from.at.bits from.last.bits) → told (λ z. z) r ≡ (pointer_field t).reads f from.at.bits from.last.bits
+  flagged-pointer P r off on each = optional-told P from (λ z. z) t r _ off on (pointer_none f from.at.bits from.last.bits t) (λ e x m. pointer-told x e (each x m))
 
 -- ## The number of channels
 

@@ -5,6 +5,7 @@ pub mod Closings
 pub mod Passing
 pub mod Sound
 pub mod Passed
+pub mod Walks
 pub mod Claimed
 pub mod Recordings
 pub mod Finding
@@ -12,4 +13,5 @@ pub mod Describing
 pub mod Written
 pub mod Fronts
 pub mod Unpacked
+pub mod Writes
 pub mod Unpacking

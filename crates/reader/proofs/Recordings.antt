@@ -1,9 +1,13 @@
 -- A file is read in two stages: its head, and what follows the head.
 use Rattle.std.proofs.Common.{◌≡◌, ℕ, ◌+◌, ◌*◌, ◌<◌, ◌≤◌, Bool, true, false, cond, eqb, ltb, leb, List, length, IsErrAnd, Some, None, Ok, Err, Option, Result, sym, refl, ap, ◌∙◌}
-use Rattle.std.proofs.lemmas.Bool.{lt-ltb, le-ltb, eq-eqb, ne_eqb}
+use Rattle.std.specs.Option.{MatchOption}
+use Rattle.std.specs.Bool.{IsTrue}
+use Rattle.std.proofs.lemmas.Bool.{lt-ltb, le-ltb, ltb-true, ltb-false, eq-eqb, ne_eqb}
 use Rattle.bits.specs.Bits.{bits_of}
 use Rattle.faults.specs.Faults as faults
 use Rattle.faults.specs.Faults.{Answer, gives, answered, number_of}
+use Rattle.fields.specs.declared.place.BitPlace.{BitPlace}
+use Rattle.faults.specs.declared.kind.Kind.{Kind}
 use Rattle.faults.specs.declared.kind.Fault.{Fault}
 use Rattle.format.specs.Cells.{File, size, number}
 use Rattle.format.specs.Format.{Outcome, got, fault, next, Format, field, whole, ◌>>=◌, judged, choose, ahead}
@@ -18,7 +22,9 @@ use Rattle.reader.specs.Files.{section_flags, recording_of, after_head}
 use Rattle.reader.specs.Counts.{seen, body_totals, answer_totals, check_answer}
 use Rattle.reader.proofs.Stages.{stages}
 use Rattle.reader.proofs.Sound.{seen_back}
+use Rattle.reader.specs.Walks.{head_read}
 use Rattle.reader.proofs.Passed.{unseen}
+use Rattle.reader.proofs.Walks.{head-back}
 
 -- the size is judged behind the sections
 module _ (s g : ℕ) (f : File) where
@@ -148,3 +154,26 @@ pub handed-on : {T A : Type 0} (value : T → A) (r : Result T Fault) (e : Fault
     faults.fault (number_of e.kind) e.place.bits ≡ o → answered value r ≡ o
 handed-on value (Ok t) e o h d = absurd h
 handed-on value (Err x) e o h d = ap (λ (z : Fault). faults.fault (number_of z.kind) z.place.bits) h ∙ d
+
+-- a fault that was made
+pub fault_stands : {A : Type 0} {r : Fault} {k : Kind} {at : BitPlace} {o : Answer A} → r ≡ record { kind = k; place = at } → faults.fault (number_of k) at.bits ≡ o → faults.fault (number_of r.kind) r.place.bits ≡ o
+fault_stands e h = ap (λ (z : Fault). faults.fault (number_of z.kind) z.place.bits) e ∙ h
+
+-- a test of a number that may be absent
+pub test-agrees : (o : Option ℕ) (v : ℕ) (b : Bool) (P : ℕ → Type 0) → MatchOption o (IsTrue b) P → ((x : ℕ) → P x → b ≡ eqb x v) → b ≡ agrees o v
+test-agrees None v b P h each = h
+test-agrees (Some x) v b P h each = each x h
+
+-- a walk did not begin
+pub check-no-walk : (f : List ℕ) {x y : ℕ} → fault x y ≡ head_read f → faults.fault x y ≡ check_answer f
+check-no-walk f {x} {y} e = by-test (ltb most_bytes (length f)) refl
+  where
+    by-test : (t : Bool) → ltb most_bytes (length f) ≡ t → faults.fault x y ≡ check_answer f
+    by-test true h =
+        let d : ◌≡◌ {A = Outcome heads.Head} (fault x y) (fault 1 0) = e ∙ ap (λ (b : Bool). cond b (fault 1 0) ((heads.head).reads (bits_of f) 0 0)) h in
+        let a : x ≡ 1 = cc in
+        let b : y ≡ 0 = cc in
+        ap (λ (k : ℕ). faults.fault k y) a ∙ ap (λ (k : ℕ). faults.fault 1 k) b ∙ check-long f (ltb-true most_bytes (length f) h)
+    by-test false h =
+        let few = ltb-false most_bytes (length f) h in
+        check-no-head f few (head-back f (fault x y) few e)

@@ -1,6 +1,6 @@
 -- Rows that are read one after the other into a table.
-use Rattle.std.proofs.Common.{◌≡◌, ℕ, ◌+◌, ◌-◌, ◌<◌, Bool, List, [], ◌∷◌, ◌++◌, map, length, take, set, IsErrAnd, Ok, Err, Result, sym, ap, ◌∙◌, arith}
-use Rattle.std.proofs.lemmas.List.{map-append, take_more_set}
+use Rattle.std.proofs.Common.{◌≡◌, ℕ, ◌+◌, ◌-◌, ◌<◌, ◌≤◌, Bool, List, [], ◌∷◌, ◌++◌, map, length, take, set, IfOk, Ok, Err, Result, sym, refl, ap, ◌∙◌, arith, length-append}
+use Rattle.std.proofs.lemmas.List.{map-append, take_more_set, take-append-le}
 use Rattle.faults.specs.declared.kind.Fault.{Fault}
 use Rattle.format.specs.Cells.{File}
 use Rattle.format.specs.Format.{Outcome, got, fault, times}
@@ -11,6 +11,7 @@ use Rattle.channel.specs.declared.record.Channel.{Channel}
 use Rattle.channel.specs.Records.{settings_of, rested}
 use Rattle.calls.specs.Calls.{settings}
 use Rattle.reading.specs.declared.taken.Taken.{Taken}
+use Rattle.reading.specs.Told.{told}
 use Rattle.reader.specs.Sections.{rows_in, AtRest}
 
 pub rows_more : (t : List Channel) (i : ℕ) (x : Channel) → i < length t → rows_in (set t i x) (i + 1) ≡ rows_in t i ++ settings_of x ∷ []
@@ -21,10 +22,6 @@ rest_more t i x h r z =
     let e = take_more_set t i x h in
     let m : rested x ≡ x = ap (λ (k : ℕ). record { settings = x.settings; memory = k }) (sym z) in
     ap (map rested) e ∙ map-append rested (take i t) (x ∷ []) ∙ ap (λ ys. ys ++ rested x ∷ []) r ∙ ap (λ (y : Channel). take i t ++ y ∷ []) m ∙ sym e
-
-pub none-at-rest : {T : Type 0} (rows : T → ℕ) (t : List Channel) (r : Result (Taken T) Fault) (e : Fault) → IsErrAnd r (λ x. x ≡ e) → AtRest rows t r
-none-at-rest rows t (Ok x) e h = absurd h
-none-at-rest rows t (Err x) e h = tt
 
 -- the rows so far, and behind them those that are left to read
 unfoldable pub so_far : Bool → File → ℕ → List recordings.Channel → ℕ → ℕ → ℕ → Outcome (List recordings.Channel)
@@ -58,3 +55,19 @@ module _ (kept : Bool) (f : File) (n p₀ l₀ : ℕ) where
       ap (λ k. got (rows_in t k) p l) (sym d)
       ∙ sym (left_end (λ (u : Unit {0}). channel kept) (λ u a. tt) f tt p l (rows_in t i))
       ∙ ap (λ k. before (rows_in t i) (left (λ (u : Unit {0}). channel kept) (λ u a. tt) f k tt p l)) (sym z) ∙ e
+
+-- the rows in front of others
+pub rows_front : (rows more : List Channel) (n : ℕ) → n ≡ length rows → take n (rows ++ more) ≡ take n rows
+rows_front rows more n e = take-append-le n rows more (omega (arith, e))
+
+pub rows-told : (rows more : List Channel) (r : Result (Taken ℕ) Fault) → IfOk r (λ t. t.value ≡ length rows) → told (rows_in (rows ++ more)) r ≡ told (rows_in rows) r
+rows-told rows more (Ok t) h = ap (λ (cs : List Channel). got (settings cs) t.end.at.bits t.end.last.bits) (rows_front rows more t.value h)
+rows-told rows more (Err e) h = refl
+
+pub rows-rest : (rows more : List Channel) (r : Result (Taken ℕ) Fault) → IfOk r (λ t. t.value ≡ length rows) → AtRest (λ n. n) rows r → AtRest (λ n. n) (rows ++ more) r
+rows-rest rows more (Ok t) h (fits, same) = (omega (arith, fits, length-append rows more), rw (rows_front rows more t.value h) same)
+rows-rest rows more (Err e) h d = tt
+
+pub rows_most : (rows : List Channel) (r : Result (Taken ℕ) Fault) → length rows ≤ 32 → IfOk r (λ t. t.value ≡ length rows) → IfOk r (λ t. t.value ≤ 32)
+rows_most rows (Ok t) h e = omega (arith, h, e)
+rows_most rows (Err e) h d = tt

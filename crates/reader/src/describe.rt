@@ -1,51 +1,35 @@
 // Describing a section of a file.
 ghost use Rattle.std.specs.Prelude.{◌≡◌, length};
 ghost use Rattle.faults.specs.Faults.{answered};
-ghost use Rattle.format.specs.Format.{Format};
-ghost use Rattle.layout.specs.Slim.{chain};
-ghost use Rattle.calls.specs.Calls as calls;
-ghost use Rattle.reading.specs.Told.{bits_in};
+ghost use Rattle.reader.specs.Walks.{standing, AtFirst, all_sections};
 ghost use Rattle.reader.specs.Describing.{HasSection, section_in, Found, describe_answer, describe_table, HoldsSection};
 
-use crate::check::{check, flags_in};
+use crate::check::check;
 use crate::opening::Opening;
-use crate::rest::pass_section;
-use crate::sections::take_opening;
+use crate::walk::Walk;
 use channel::record::Channel;
 use faults::kind::{Fault, Kind};
-use fields::place::BitPlace;
-use limits::MOST_CHANNELS;
-use reading::source::Source;
 use reading::taken::Taken;
-use state::Flags;
 
 // How many channels a section has, and its raw size.
-#[derive(Clone, Copy)]
+#[derive(Clone, Copy, Debug, PartialEq, Eq)]
 pub struct Described {
     pub rows: usize,
     pub raw: u32,
 }
 
-// Reads the head of a section, which is there, behind so many others; its channels go to the first rows of a table.
-fn find_section(
-    source: Source,
-    at: BitPlace,
-    flags: Flags,
-    section: usize,
-    table: &mut [Channel],
-) -> Result<Taken<Opening>, Fault>
-    requires table { length table.old ≡ 32 }
-    requires there { HasSection ((chain (calls.flags flags) 64 0).reads (bits_in source) at.bits 0) section }
-    ensures { Found (section_in ((chain (calls.flags flags) 64 0).reads (bits_in source.entry) at.bits 0) section) table.new result }
-{
-    let mut start = at;
-    let mut raw = 0;
-    for before in 0..section {
-        let passed = pass_section(source, start, flags, raw, true, table)?;
-        raw += passed.value.raw;
-        start = passed.at;
+impl<'a> Walk<'a> {
+    // Passes so many sections, from the first on, and reads the head of the next, which is there.
+    fn find(&mut self, section: usize) -> Result<Taken<Opening>, Fault>
+        requires first { AtFirst (standing self.old) }
+        requires there { HasSection (all_sections (standing self.old)) section }
+        ensures { Found (section_in (all_sections (standing self.old)) section) self.new.rows result }
+    {
+        for _ in 0..section {
+            self.pass()?;
+        }
+        self.open()
     }
-    take_opening(source, start, flags, raw, table)
 }
 
 // Checks a whole file and fills the first rows of a table with the channels of one section, numbered from 0, at their starting memories.
@@ -57,24 +41,15 @@ pub fn describe(file: &[u8], section: usize, table: &mut [Channel]) -> Result<De
 {
     let totals = check(file)?;
     if section >= totals.sections as usize {
-        return Err(Fault {
-            kind: Kind::NoSection,
-            place: BitPlace::new(0),
-        });
+        return Err(Kind::NoSection.at_start());
     }
-    let source = Source { bytes: file };
-    let head = source.take_head()?;
-    let flags = flags_in(head.value.flags);
-    let mut rows = [Channel::plain(); MOST_CHANNELS];
-    let found = find_section(source, head.at, flags, section, &mut rows)?;
+    let mut walk = Walk::start(file)?;
+    let found = walk.find(section)?;
     let count = found.value.rows;
     if count > table.len() {
-        return Err(Fault {
-            kind: Kind::OutputTooShort,
-            place: BitPlace::new(0),
-        });
+        return Err(Kind::OutputTooShort.at_start());
     }
-    table[..count].copy_from_slice(&rows[..count]);
+    table[..count].copy_from_slice(&walk.rows[..count]);
     Ok(Described {
         rows: count,
         raw: found.value.raw,

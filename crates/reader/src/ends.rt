@@ -9,7 +9,7 @@ ghost use Rattle.reader.specs.Sections.{agrees};
 ghost use Rattle.reader.specs.Counts.{follows};
 
 use faults::kind::{Fault, Kind};
-use fields::place::BitPlace;
+use fields::place::{BitPlace, Cursor};
 use reading::closing::Closing;
 use reading::source::Source;
 use reading::taken::Taken;
@@ -18,10 +18,7 @@ use reading::taken::Taken;
 fn goes_on(closing: Closing) -> bool
     ensures { result ≡ follows closing }
 {
-    match closing {
-        Closing::Another => true,
-        Closing::Ended(_) => false,
-    }
+    matches!(closing, Closing::Another)
 }
 
 // Takes what closes a section; another may follow only where there is room for it.
@@ -29,33 +26,26 @@ pub(crate) fn take_end(source: Source, at: BitPlace, room: bool) -> Result<Taken
     ensures { (l : ℕ) → told (closing_of (bits_in source.entry)) result ≡ (judged slim.closing (λ e q. not (goes_on e) || room) 9).reads (bits_in source.entry) at.bits l }
 {
     let closing = source.take_closing(at)?;
-    if room {
-        return Ok(closing);
-    }
-    if goes_on(closing.value) {
-        return Err(Fault {
-            kind: Kind::OverLimit,
-            place: closing.last,
-        });
+    if goes_on(closing.value) && !room {
+        return Err(Kind::OverLimit.at(closing.end.last));
     }
     Ok(closing)
 }
 
 // Takes the pad bits up to the next whole byte, which are not judged.
-pub(crate) fn take_padding(source: Source, at: BitPlace, last: BitPlace) -> Result<Taken<()>, Fault>
-    ensures { told (λ u. u) result ≡ padding.reads (bits_in source.entry) at.bits last.bits }
+pub(crate) fn take_padding(source: Source, from: Cursor) -> Result<Taken<()>, Fault>
+    ensures { told (λ u. u) result ≡ padding.reads (bits_in source.entry) from.at.bits from.last.bits }
 {
-    let end = at.whole_byte().first_bit();
-    if end.bits() > 8 * source.bytes.len() {
-        return Err(Fault {
-            kind: Kind::InputEnds,
-            place: at,
-        });
+    let at = from.at.whole_byte().first_bit();
+    if at.bits() > 8 * source.bytes.len() {
+        return Err(Kind::InputEnds.at(from.at));
     }
     Ok(Taken {
         value: (),
-        at: end,
-        last,
+        end: Cursor {
+            at,
+            last: from.last,
+        },
     })
 }
 
@@ -63,12 +53,10 @@ pub(crate) fn take_padding(source: Source, at: BitPlace, last: BitPlace) -> Resu
 pub(crate) fn names_next(pointer: Option<u32>, closing: Closing, end: BitPlace) -> bool
     ensures { result ≡ agrees pointer (if follows closing then end.bits / 8 else 0) }
 {
-    let Some(place) = pointer else {
-        return true;
-    };
-    if goes_on(closing) {
-        place as usize == end.byte().bytes()
+    let next = if goes_on(closing) {
+        end.byte().bytes()
     } else {
-        place == 0
-    }
+        0
+    };
+    pointer.is_none_or(|place| place as usize == next)
 }

@@ -8,5 +8,7 @@ mod opening;
 mod outline;
 mod rest;
 mod sections;
+mod start;
 pub mod totals;
 pub mod unpack;
+mod walk;

@@ -1,80 +1,61 @@
 // Reading a section whose words are not kept.
-ghost use Rattle.std.specs.Prelude.{◌≡◌, ℕ, ◌≤◌, true, length};
+ghost use Rattle.std.specs.Prelude.{◌≡◌, ℕ, true, IfOk};
+ghost use Rattle.bits.specs.Bits.{bits_of};
 ghost use Rattle.format.specs.Format.{Format};
-ghost use Rattle.layout.specs.Slim.{piece};
-ghost use Rattle.calls.specs.Calls as calls;
 ghost use Rattle.frames.specs.Frames.{countable};
-ghost use Rattle.reading.specs.Told.{bits_in, told};
+ghost use Rattle.reading.specs.Told.{told};
+ghost use Rattle.reader.specs.Walks.{standing, has_room, stepped, next_section, moved};
 ghost use Rattle.reader.specs.Sections.{rest, rows_in, head_in};
 ghost use Rattle.reader.specs.Counts.{seen, outline, outline_in};
 
 use crate::ends::{names_next, take_end, take_padding};
 use crate::opening::Opening;
 use crate::outline::Outline;
-use crate::sections::take_opening;
-use channel::record::Channel;
+use crate::walk::Walk;
 use faults::kind::{Fault, Kind};
-use fields::place::BitPlace;
+use fields::place::Cursor;
 use frames::count_words;
-use reading::source::Source;
+use limits::MOST_SECTIONS;
 use reading::taken::Taken;
-use state::Flags;
 use words::pass::pass_words;
 
-// Reads what follows the head of a section; another section may follow where there is room for it.
-fn pass_rest(
-    source: Source,
-    at: BitPlace,
-    last: BitPlace,
-    opening: Opening,
-    room: bool,
-    table: &[Channel],
-) -> Result<Taken<Outline>, Fault>
-    requires rows { opening.rows ≤ length table.now }
-    requires countable { countable (rows_in table.now opening.rows) ≡ true }
-    ensures { told (outline_in (bits_in source.entry)) result ≡ seen outline ((rest room (head_in table.now opening)).reads (bits_in source.entry) at.bits last.bits) }
-{
-    let count = opening.rows;
-    let rows = &table[..count];
-    let Some(words) = count_words(rows, opening.raw) else {
-        return Err(Fault {
-            kind: Kind::PartialWord,
-            place: last,
-        });
-    };
-    let passed = pass_words(source.bytes, at, last, rows, words)?;
-    let closing = take_end(source, passed.at, room)?;
-    let padding = take_padding(source, closing.at, closing.last)?;
-    if !names_next(opening.pointer, closing.value, padding.at) {
-        return Err(Fault {
-            kind: Kind::WrongPointer,
-            place: padding.last,
-        });
-    }
-    Ok(Taken {
-        value: Outline {
-            raw: opening.raw,
+impl<'a> Walk<'a> {
+    // Reads what follows the head of the next section; another may follow behind fewer than 63.
+    fn pass_rest(&self, opening: Taken<Opening>) -> Result<Taken<Outline>, Fault>
+        requires { countable (rows_in self.now.rows opening.value.rows) ≡ true }
+        ensures { let s = standing self.now in told (outline_in (bits_of s.file)) result ≡ seen outline ((rest (has_room s) (head_in self.now.rows opening.value)).reads (bits_of s.file) opening.end.at.bits opening.end.last.bits) }
+    {
+        let Opening { raw, pointer, rows } = opening.value;
+        let Cursor { at, last } = opening.end;
+        let rows = &self.rows[..rows];
+        let words = count_words(rows, raw).ok_or(Kind::PartialWord.at(last))?;
+        let passed = pass_words(self.source.bytes, at, last, rows, words)?;
+        let room = self.sections + 1 < MOST_SECTIONS;
+        let closing = take_end(self.source, passed.at, room)?;
+        let padding = take_padding(self.source, closing.end)?;
+        if !names_next(pointer, closing.value, padding.end.at) {
+            return Err(Kind::WrongPointer.at(padding.end.last));
+        }
+        Ok(padding.with(Outline {
+            raw,
             words,
             closing: closing.value,
-        },
-        at: padding.at,
-        last: padding.last,
-    })
-}
+        }))
+    }
 
-// Reads a section after so many raw bytes; its channels go to the first rows of a table.
-pub(crate) fn pass_section(
-    source: Source,
-    at: BitPlace,
-    flags: Flags,
-    total: u32,
-    room: bool,
-    table: &mut [Channel],
-) -> Result<Taken<Outline>, Fault>
-    requires few { total ≤ 16777216 }
-    requires table { length table.old ≡ 32 }
-    ensures { (l : ℕ) → told (outline_in (bits_in source.entry)) result ≡ seen outline ((piece (calls.flags flags) room total).reads (bits_in source.entry) at.bits l) }
-{
-    let opening = take_opening(source, at, flags, total, table)?;
-    pass_rest(source, opening.at, opening.last, opening.value, room, table)
+    // Passes the next section. Fault 9 behind 64 of them.
+    pub(crate) fn pass(&mut self) -> Result<Outline, Fault>
+        ensures section { let s = standing self.old in (l : ℕ) → stepped (outline_in (bits_of s.file)) (standing self.new) result ≡ next_section s l }
+        ensures moves { let v = standing self.new in IfOk result (λ o. v ≡ moved (standing self.old) v.place v.tried o.raw) }
+    {
+        if self.sections >= MOST_SECTIONS {
+            return Err(Kind::OverLimit.at(self.end.last));
+        }
+        let opening = self.open()?;
+        let passed = self.pass_rest(opening)?;
+        self.end = passed.end;
+        self.sections += 1;
+        self.raw += passed.value.raw;
+        Ok(passed.value)
+    }
 }

@@ -1,7 +1,7 @@
 // A file in numbers.
 
 // The numbers of sections, words, raw bytes and leftovers.
-#[derive(Clone, Copy)]
+#[derive(Clone, Copy, Debug, PartialEq, Eq)]
 pub struct Totals {
     pub sections: u32,
     pub words: u32,

@@ -1,29 +1,23 @@
 // Unpacking a whole file.
-ghost use Rattle.std.specs.Prelude.{◌≡◌, ℕ, ◌+◌, ◌*◌, ◌≤◌, Bool, length};
+ghost use Rattle.std.specs.Prelude.{◌≡◌, ◌+◌, ◌*◌, ◌≤◌, length};
 ghost use Rattle.bits.specs.Bits.{bits_of, put_bits};
-ghost use Rattle.format.specs.Format.{Format, got};
+ghost use Rattle.reader.specs.Walks.{standing, AtFirst, all_sections};
 ghost use Rattle.faults.specs.Faults.{answered};
-ghost use Rattle.layout.specs.Turns.{raw_size};
-ghost use Rattle.layout.specs.Slim.{flag, Piece, piece, chain};
-ghost use Rattle.calls.specs.Calls as calls;
+ghost use Rattle.reader.specs.Written.{WritesNext};
 ghost use Rattle.reading.specs.Told.{bits_in};
 ghost use Rattle.reading.specs.Blocks.{bytes_at};
-ghost use Rattle.reader.specs.Unpacking.{section_bytes, unpack_answer, unpack_bytes, Unpacks, RoomFor, body_answer, body_left};
+ghost use Rattle.reader.specs.Unpacking.{unpack_answer, unpack_bytes, Unpacks, RoomFor, body_answer, body_left};
 
-use crate::check::{check, flags_in};
-use crate::rest::pass_section;
-use crate::sections::take_opening;
-use channel::record::Channel;
+use crate::check::check;
+use crate::walk::Walk;
 use faults::kind::{Fault, Kind};
 use fields::bytes::are_bytes;
 use fields::field::{put_field, window_at};
-use fields::place::{BitPlace, BytePlace};
+use fields::place::BytePlace;
 use frames::count_words;
-use limits::{MOST_CHANNELS, MOST_SECTIONS};
 use reading::block::Block;
 use reading::closing::Closing;
 use reading::source::Source;
-use state::Flags;
 use words::spread::spread_words;
 
 // Writes at most seven bytes of a file, from a byte on; they are one field.
@@ -37,62 +31,39 @@ fn write_leftovers(source: Source, leftovers: Block, out: &mut [u8], from: u32)
     put_field(out, place, bytes.bits, 8 * leftovers.len as u32);
 }
 
-// Writes the raw bytes of a section that follows so many raw bytes behind these; its channels go to the first rows of a table.
-fn write_section(
-    source: Source,
-    at: BitPlace,
-    flags: Flags,
-    total: u32,
-    table: &mut [Channel],
-    out: &mut [u8],
-)
-    requires few { total ≤ 16777216 }
-    requires table { length table.old ≡ 32 }
-    ensures { (room : Bool) (l : ℕ) (x : Piece) (q m : ℕ) → (piece (calls.flags flags) room total).reads (bits_in source.entry) at.bits l ≡ got x q m → total + raw_size x.section ≤ length out.old → out.new ≡ put_bits out.old (8 * total) (bits_of (section_bytes x.section)) }
-{
-    let Ok(opening) = take_opening(source, at, flags, total, table) else {
-        return;
-    };
-    let count = opening.value.rows;
-    let rows = &table[..count];
-    if let Some(words) = count_words(rows, opening.value.raw) {
-        let from = BytePlace::new(total as usize);
-        spread_words(source.bytes, opening.at, rows, words, out, from);
-    }
-}
-
-// Writes the raw bytes of all sections and behind them the leftovers, and answers their number.
-fn write_sections(
-    source: Source,
-    at: BitPlace,
-    last: BitPlace,
-    flags: Flags,
-    table: &mut [Channel],
-    out: &mut [u8],
-) -> Result<usize, Fault>
-    requires table { length table.old ≡ 32 }
-    requires room { RoomFor ((chain (calls.flags flags) 64 0).reads (bits_in source) at.bits last.bits) (length out.old) }
-    ensures answer { answered (λ n. n) result ≡ body_answer ((chain (calls.flags flags) 64 0).reads (bits_in source.entry) at.bits last.bits) }
-    ensures bytes { out.new ≡ body_left ((chain (calls.flags flags) 64 0).reads (bits_in source.entry) at.bits last.bits) out.old }
-{
-    are_bytes(out);
-    let mut end = at;
-    let mut raw = 0;
-    for before in 0..MOST_SECTIONS {
-        let room = before + 1 < MOST_SECTIONS;
-        let section = pass_section(source, end, flags, raw, room, table)?;
-        write_section(source, end, flags, raw, table, out);
-        raw += section.value.raw;
-        if let Closing::Ended(leftovers) = section.value.closing {
-            write_leftovers(source, leftovers, out, raw);
-            return Ok(raw as usize + leftovers.len);
+impl<'a> Walk<'a> {
+    // Writes the raw bytes of the next section behind those of the sections that were passed.
+    fn write(&mut self, out: &mut [u8])
+        ensures bytes { WritesNext (standing self.old) out.old out.new }
+        ensures stays { standing self.new ≡ standing self.old }
+    {
+        let Ok(opening) = self.open() else {
+            return;
+        };
+        let rows = &self.rows[..opening.value.rows];
+        if let Some(words) = count_words(rows, opening.value.raw) {
+            let from = BytePlace::new(self.raw as usize);
+            spread_words(self.source.bytes, opening.end.at, rows, words, out, from);
         }
-        end = section.at;
     }
-    Err(Fault {
-        kind: Kind::OverLimit,
-        place: last,
-    })
+
+    // Writes the raw bytes of all sections, from the first on, and behind them the leftovers, and answers their number.
+    fn write_all(&mut self, out: &mut [u8]) -> Result<usize, Fault>
+        requires first { AtFirst (standing self.old) }
+        requires room { RoomFor (all_sections (standing self.old)) (length out.old) }
+        ensures answer { answered (λ n. n) result ≡ body_answer (all_sections (standing self.old)) }
+        ensures bytes { out.new ≡ body_left (all_sections (standing self.old)) out.old }
+    {
+        are_bytes(out);
+        loop {
+            self.write(out);
+            let section = self.pass()?;
+            if let Closing::Ended(leftovers) = section.closing {
+                write_leftovers(self.source, leftovers, out, self.raw);
+                return Ok(self.raw as usize + leftovers.len);
+            }
+        }
+    }
 }
 
 // Checks a whole file, and then writes the raw bytes of all sections, one after the other, and behind them the leftovers to the front of `out`.
@@ -104,14 +75,8 @@ pub fn unpack(file: &[u8], out: &mut [u8]) -> Result<usize, Fault>
 {
     let totals = check(file)?;
     if totals.raw as usize + totals.leftovers > out.len() {
-        return Err(Fault {
-            kind: Kind::OutputTooShort,
-            place: BitPlace::new(0),
-        });
+        return Err(Kind::OutputTooShort.at_start());
     }
-    let source = Source { bytes: file };
-    let head = source.take_head()?;
-    let flags = flags_in(head.value.flags);
-    let mut table = [Channel::plain(); MOST_CHANNELS];
-    write_sections(source, head.at, head.last, flags, &mut table, out)
+    let mut walk = Walk::start(file)?;
+    walk.write_all(out)
 }

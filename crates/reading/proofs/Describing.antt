@@ -1,5 +1,6 @@
 -- Reading a channel's description.
-use Rattle.std.proofs.Common.{◌≡◌, ℕ, suc, ◌<◌, Bool, true, false, cond, ◌&&◌, eqb, refl, ap, ◌∙◌, arith}
+use Rattle.std.proofs.Common.{◌≡◌, ℕ, suc, ◌<◌, Bool, true, false, cond, ◌&&◌, eqb, IsErrAnd, Ok, Err, Result, sym, refl, ap, ◌∙◌, subst, arith}
+use Rattle.std.specs.Result.{MatchResult}
 use Rattle.std.proofs.lemmas.Bool.{lt-ltb, le-ltb, eq-eqb, ne_eqb}
 use Rattle.faults.specs.Faults as faults
 use Rattle.format.specs.Cells.{File}
@@ -141,3 +142,12 @@ module _ (c : Channel) where
       by-test : (t : Bool) → ◌≡◌ {A = Made} (faults.fault x y) (cond t (faults.gives (c, 0)) (faults.fault 6 0)) → t ≡ false
       by-test true e = let z : ◌≡◌ {A = ℕ} 0 1 = cc in absurd (omega arith)
       by-test false e = refl
+
+-- the answer of the maker, where its fault is put in another's place
+pub row-made : {R E D : Type 0} (P : E → D → Type 0) (o : Result R E) (m : Result R D) (x : R) → Ok x ≡ m → MatchResult o (λ x. m ≡ Ok x) (λ e. IsErrAnd m (P e)) → o ≡ Ok x
+row-made P (Ok y) m x e h = let z = e ∙ h in cc
+row-made {R} {E} {D} P (Err y) m x e h = absurd (subst (λ (z : Result R D). IsErrAnd z (P y)) (sym e) h)
+
+pub row-unmade : {R E D : Type 0} (P : E → D → Type 0) (o : Result R E) (m : Result R D) (x : D) → Err x ≡ m → MatchResult o (λ x. m ≡ Ok x) (λ e. IsErrAnd m (P e)) → (e : E) × (o ≡ Err e) × P e x
+row-unmade {R} {E} {D} P (Ok y) m x e h = let z : ◌≡◌ {A = Result R D} (Ok y) (Err x) = sym h ∙ sym e in cc
+row-unmade {R} {E} {D} P (Err y) m x e h = (y, refl, subst (λ (z : Result R D). IsErrAnd z (P y)) (sym e) h)

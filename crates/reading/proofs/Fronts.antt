@@ -1,5 +1,5 @@
 -- Reading the head of a file.
-use Rattle.std.proofs.Common.{◌≡◌, ℕ, ◌%◌, ◌<◌, ◌≤◌, Bool, true, false, eqb, ltb, List, Some, None, Option, sym, ap, ◌∙◌, div-one, arith}
+use Rattle.std.proofs.Common.{◌≡◌, ℕ, ◌<◌, ◌≤◌, Bool, true, false, eqb, ltb, List, Some, None, Option, sym, ap, ◌∙◌, arith}
 use Rattle.std.proofs.lemmas.Bool.{lt-ltb, le-ltb, eq-eqb, ne_eqb}
 use Rattle.format.specs.Cells.{File}
 use Rattle.format.specs.Format.{Outcome, got, fault, Format, field}
@@ -42,10 +42,6 @@ module _ (t : Bool) (f : File) (p l : ℕ) where
 -- the first place
 pub at-start : (f : File) (s : ℕ) (o : Outcome ℕ) → s ≡ 0 → o ≡ (field 16 any 0).reads f s 0 → o ≡ (field 16 any 0).reads f 0 0
 at-start f s o e h = h ∙ ap (λ (p : ℕ). (field 16 any 0).reads f p 0) e
-
--- the lowest flag
-pub lowest : (g : ℕ) (f : File) (p l : ℕ) (o : Outcome (Option ℕ)) → o ≡ (size_field (eqb (g % 2) 1)).reads f p l → o ≡ (size_field (flag 0 g)).reads f p l
-lowest g f p l o h = h ∙ ap (λ (x : ℕ). (size_field (eqb (x % 2) 1)).reads f p l) (sym (div-one g))
 
 -- the byte behind the flags
 pub behind-flags : (f : File) (v q₁ m₁ s q₂ m₂ g q₃ m₃ : ℕ) → got v q₁ m₁ ≡ (field 16 any 0).reads f 0 0 → got s q₂ m₂ ≡ (field 32 any 0).reads f q₁ m₁ → got g q₃ m₃ ≡ (field 8 any 0).reads f q₂ m₂ → q₃ ≡ 56

@@ -1,10 +1,9 @@
 -- The items that are handed out.
-use Rattle.std.proofs.Common.{◌≡◌, ℕ, ◌+◌, ◌<◌, ◌≤◌, Bool, true, false, cond, ltb, List, length, take, drop, IsErrAnd, Some, None, Ok, Err, Option, Result, sym, refl, ap, ◌∙◌, arith, length-drop}
+use Rattle.std.proofs.Common.{◌≡◌, ℕ, ◌+◌, ◌<◌, ◌≤◌, Bool, true, false, cond, ltb, List, length, take, drop, IsErrAnd, Some, None, Ok, Err, Option, Result, sym, refl, ap, ◌∙◌, subst, arith, length-drop}
 use Rattle.std.proofs.lemmas.Bool.{le-ltb, lt-ltb}
 use Rattle.std.proofs.lemmas.List.{length-take-le}
 use Rattle.std.specs.Option.{option_map}
 use Rattle.bits.specs.Bits.{bits_of}
-use Rattle.fields.specs.declared.place.BitPlace.{BitPlace}
 use Rattle.faults.specs.Faults.{gives}
 use Rattle.faults.specs.declared.kind.Kind.TheVariants.{WrongLength}
 use Rattle.faults.specs.declared.kind.Fault.{Fault}
@@ -39,23 +38,27 @@ items-are file h q m size name extra few a b c e =
     ∙ ap (λ (x : Bool). cond x (faults.fault 1 0) (headed ((heads.head).reads (bits_of file) 0 0))) (sym t)
 
 -- a file that is too long
-pub too_long : (file : List ℕ) (r : Fault) (at : BitPlace) → 16777216 < length file → r ≡ record { kind = WrongLength; place = at } → at.bits ≡ 0 →
+pub too_long : (file : List ℕ) (r : Fault) → 16777216 < length file → r ≡ record { kind = WrongLength; place = record { bits = 0 } } →
     faults.fault (faults.number_of r.kind) r.place.bits ≡ head_answer file
-too_long file r at many e z =
+too_long file r many e =
     let t : ltb most_bytes (length file) ≡ true = lt-ltb most_bytes (length file) many in
     ap (λ (x : Fault). faults.fault (faults.number_of x.kind) x.place.bits) e
-    ∙ ap (λ (p : ℕ). faults.fault 1 p) z
     ∙ ap (λ (x : Bool). cond x (faults.fault 1 0) (headed ((heads.head).reads (bits_of file) 0 0))) (sym t)
+
+pub handed_on : (file : List ℕ) (r : Result Head Fault) (e : Fault) → IsErrAnd r (λ x. x ≡ e) → faults.fault (faults.number_of e.kind) e.place.bits ≡ head_answer file → faults.answered handed r ≡ head_answer file
+handed_on file (Ok h) e x d = absurd x
+handed_on file (Err y) e x d = ap (λ (z : Fault). faults.fault (faults.number_of z.kind) z.place.bits) x ∙ d
+
+-- a part lies within the file
+pub part_inside : (file : List ℕ) (at : ℕ) (p : Part) (o : Option Part) → o ≡ Some p → PartAt file at o → p.at.bytes + p.len ≤ length file
+part_inside file at p o e h = let (a, b) = subst (λ (z : Option Part). PartAt file at z) e h in omega (arith, a, b)
 
 -- a fault that is handed on
 pub head_passed : (file : List ℕ) (r : Result Head Fault) (e : Fault) → length file ≤ 16777216 → IsErrAnd r (λ x. x ≡ e) →
     fault (faults.number_of e.kind) e.place.bits ≡ (heads.head).reads (bits_of file) 0 0 → faults.answered handed r ≡ head_answer file
-head_passed file (Ok h) e few x d = absurd x
-head_passed file (Err y) e few x d =
+head_passed file r e few x d =
     let t : ltb most_bytes (length file) ≡ false = le-ltb most_bytes (length file) few in
-    ap (λ (z : Fault). faults.fault (faults.number_of z.kind) z.place.bits) x
-    ∙ ap headed d
-    ∙ ap (λ (b : Bool). cond b (faults.fault 1 0) (headed ((heads.head).reads (bits_of file) 0 0))) (sym t)
+    handed_on file r e x (ap headed d ∙ ap (λ (b : Bool). cond b (faults.fault 1 0) (headed ((heads.head).reads (bits_of file) 0 0))) (sym t))
 
 some_is : {A : Type 0} {a b : A} → Some a ≡ Some b → a ≡ b
 some_is {A} {a} {b} e = cc

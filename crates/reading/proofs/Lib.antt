@@ -5,5 +5,6 @@ pub mod Blocks
 pub mod Closings
 pub mod Names
 pub mod Fronts
+pub mod Optional
 pub mod Handing
 pub mod Agreeing

@@ -1,6 +1,7 @@
 -- Fields of any value, as they are taken.
-use Rattle.std.proofs.Common.{◌≡◌, ℕ, ◌+◌, ◌-◌, ◌*◌, ◌^◌, ◌<◌, ◌≤◌, min, Bool, true, false, cond, ◌&&◌, leb, List, length, Some, None, sym, refl, ap, ◌∙◌, arith, le-leb, leb-true}
+use Rattle.std.proofs.Common.{◌≡◌, ℕ, ◌+◌, ◌-◌, ◌*◌, ◌^◌, ◌<◌, ◌≤◌, min, Bool, true, false, cond, ◌&&◌, leb, List, length, Some, None, Ok, Err, Option, sym, refl, ap, ◌∙◌, arith, le-leb, leb-true, leb-false}
 use borrow.Author.Tests.{lt-leb}
+use Rattle.std.specs.Option.{ok_or}
 use Rattle.bits.specs.Bits.{bits_of, field_at}
 use Rattle.bits.proofs.Files.{length-bits_of}
 use Rattle.fields.specs.Fields.{is_field}
@@ -16,8 +17,8 @@ use Rattle.layout.specs.Slim.{any}
 use Rattle.reading.specs.Told.{taking}
 
 -- what a fault of the code says
-pub fault-is : {A : Type 0} (r : Fault) (k : Kind) (at : BitPlace) (o : Outcome A) → r ≡ record { kind = k; place = at } → fault (number_of k) at.bits ≡ o → fault (number_of r.kind) r.place.bits ≡ o
-fault-is r k at o e h = ap (λ (z : Fault). fault (number_of z.kind) z.place.bits) e ∙ h
+pub fault-is : {A : Type 0} {r : Fault} {k : Kind} {at : BitPlace} {o : Outcome A} → r ≡ record { kind = k; place = at } → fault (number_of k) at.bits ≡ o → fault (number_of r.kind) r.place.bits ≡ o
+fault-is e h = ap (λ (z : Fault). fault (number_of z.kind) z.place.bits) e ∙ h
 
 -- ## Looking
 
@@ -26,11 +27,12 @@ module _ (f : List ℕ) (p n : ℕ) where
   none_left h k = sym (lt-leb (p + n) (size (bits_of f)) (omega (arith, length-bits_of f)))
 
   -- q is the place n bits further on, as far as places go
-  pub few-left : (q : ℕ) → q ≡ min (p + n) (2 ^ 64 - 1) → 8 * length f < q → false ≡ leb (p + n) (size (bits_of f))
-  few-left q e h = sym (lt-leb (p + n) (size (bits_of f)) (omega (arith, length-bits_of f)))
-
-  pub enough-left : (q : ℕ) → q ≡ min (p + n) (2 ^ 64 - 1) → length f ≤ 16777216 → q ≤ 8 * length f → true ≡ leb (p + n) (size (bits_of f))
-  enough-left q e s h = sym (le-leb (p + n) (size (bits_of f)) (omega (arith, length-bits_of f)))
+  pub few_or_enough : (q : ℕ) → q ≡ min (p + n) (2 ^ 64 - 1) → length f ≤ 16777216 → leb q (8 * length f) ≡ leb (p + n) (size (bits_of f))
+  few_or_enough q e s = by-test (leb q (8 * length f)) refl
+    where
+      by-test : (t : Bool) → leb q (8 * length f) ≡ t → t ≡ leb (p + n) (size (bits_of f))
+      by-test true h = let i = leb-true q (8 * length f) h in sym (le-leb (p + n) (size (bits_of f)) (omega (arith, i, length-bits_of f)))
+      by-test false h = let i = leb-false q (8 * length f) h in sym (lt-leb (p + n) (size (bits_of f)) (omega (arith, i, length-bits_of f)))
 
 -- ## Taking
 
@@ -79,6 +81,15 @@ too_wide f p n l e h =
 value_read : (f : List ℕ) (p n l v : ℕ) → v ≡ field_at f p n → leb (p + n) (size (bits_of f)) ≡ true → got v (p + n) p ≡ (field n any 0).reads (bits_of f) p l
 unfolding field number field_at
 value_read f p n l v e h = rw (h, e) refl
+
+-- a value that is there, or a fault in its place
+pub nothing-there : {A E : Type 0} (o : Option A) (e x : E) → Err x ≡ ok_or o e → (o ≡ None) × (x ≡ e)
+nothing-there {A} None e x h = (refl, cc)
+nothing-there {A} (Some v) e x h = let z : (◌≡◌ {A = Option A} (Some v) None) × (x ≡ e) = (cc, cc) in z
+
+pub value_there : {A E : Type 0} (o : Option A) (e : E) (v : A) → Ok v ≡ ok_or o e → o ≡ Some v
+value_there None e v h = cc
+value_there (Some w) e v h = cc
 
 -- the fields of 1 to so many bits
 pub taking-is : (most n : ℕ) (f : File) (p l : ℕ) → 0 < n → n ≤ most → taking most n f p l ≡ (field n any 0).reads f p l

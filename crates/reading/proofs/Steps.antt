@@ -106,6 +106,13 @@ pub passed : {T A : Type 0} (parts : T → A) (r : Result (Taken T) Fault) (e : 
 passed parts (Ok t) e o h d = absurd h
 passed parts (Err x) e o h d = ap (λ (z : Fault). fault (number_of z.kind) z.place.bits) h ∙ d
 
+-- another value with the same end
+pub with-is : {T A : Type 0} (parts : T → A) {r x : Taken T} {o : Outcome A} → r ≡ x → told parts (Ok x) ≡ o → told parts (Ok r) ≡ o
+with-is {T} parts {r} {x} e h = ap (λ (z : Taken T). told parts (Ok z)) e ∙ h
+
+pub with_ok : {T : Type 0} (P : Taken T → Type 0) {r x : Taken T} → r ≡ x → P x → P r
+with_ok P e h = rw e h
+
 pub passed_none : {T : Type 0} (P : T → Type 0) (r : Result T Fault) (e : Fault) → IsErrAnd r (λ x. x ≡ e) → IfOk r P
 passed_none P (Ok t) e h = absurd h
 passed_none P (Err x) e h = tt

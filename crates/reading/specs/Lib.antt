@@ -1,4 +1,6 @@
 pub mod Told
+pub mod Sources
+pub mod Flags
 pub mod Descriptions
 pub mod Blocks
 pub mod Heads

@@ -18,7 +18,7 @@ bits_in s = bits_of (bytes_in s)
 
 -- a value with the place behind it and the first bit of the field last tried, or a fault by number and place
 abbrev pub told : {T A : Type 0} → (T → A) → Result (Taken T) Fault → Outcome A
-told parts (Ok t) = got (parts t.value) t.at.bits t.last.bits
+told parts (Ok t) = got (parts t.value) t.end.at.bits t.end.last.bits
 told parts (Err e) = fault (number_of e.kind) e.place.bits
 
 -- a field of 1 to so many bits, of any value; no other number of bits makes a field

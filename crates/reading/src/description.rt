@@ -9,13 +9,12 @@ ghost use Rattle.reading.specs.Told.{bits_in, told};
 ghost use Rattle.reading.specs.Descriptions.{with_added};
 
 use crate::added::Added;
-use crate::field::fault_at;
 use crate::source::Source;
 use crate::taken::Taken;
 use channel::make::{channel, width_of};
 use channel::record::Channel;
 use faults::kind::{Fault, Kind};
-use fields::place::BitPlace;
+use fields::place::{BitPlace, Cursor};
 
 impl<'a> Source<'a> {
     // Takes the repeats, which are 1 where they are not recorded.
@@ -25,22 +24,15 @@ impl<'a> Source<'a> {
         if !recorded {
             return Ok(Taken {
                 value: 1,
-                at,
-                last: at,
+                end: Cursor { at, last: at },
             });
         }
         self.take_number(at, 24)
     }
 
     // Takes what the algorithm adds behind the type: nothing where one of them is outside the rules.
-    fn take_added(
-        self,
-        at: BitPlace,
-        last: BitPlace,
-        algorithm: u32,
-        kind: u32,
-    ) -> Result<Taken<Added>, Fault>
-        ensures { (n d b : ℕ) → told (with_added n d b algorithm kind) result ≡ (slim.added n d b algorithm kind).reads (bits_in self.entry) at.bits last.bits }
+    fn take_added(self, from: Cursor, algorithm: u32, kind: u32) -> Result<Taken<Added>, Fault>
+        ensures { (n d b : ℕ) → told (with_added n d b algorithm kind) result ≡ (slim.added n d b algorithm kind).reads (bits_in self.entry) from.at.bits from.last.bits }
     {
         let width = width_of(kind);
         let nothing = Taken {
@@ -48,35 +40,26 @@ impl<'a> Source<'a> {
                 narrow: 0,
                 value: 0,
             },
-            at,
-            last,
+            end: from,
         };
         if width == 0 {
             return Ok(nothing);
         }
         match algorithm {
             1 => {
-                let pedestal = self.take_number(at, width)?;
-                let less = self.take_number(pedestal.at, 5)?;
-                Ok(Taken {
-                    value: Added {
-                        narrow: less.value + 1,
-                        value: pedestal.value,
-                    },
-                    at: less.at,
-                    last: less.last,
-                })
+                let pedestal = self.take_number(from.at, width)?;
+                let less = self.take_number(pedestal.end.at, 5)?;
+                Ok(less.with(Added {
+                    narrow: less.value + 1,
+                    value: pedestal.value,
+                }))
             }
             6 => {
-                let word = self.take_number(at, width)?;
-                Ok(Taken {
-                    value: Added {
-                        narrow: 0,
-                        value: word.value,
-                    },
-                    at: word.at,
-                    last: word.last,
-                })
+                let word = self.take_number(from.at, width)?;
+                Ok(word.with(Added {
+                    narrow: 0,
+                    value: word.value,
+                }))
             }
             _ => Ok(nothing),
         }
@@ -89,12 +72,12 @@ impl<'a> Source<'a> {
         ensures rest { IfOk result (λ t. t.value.memory ≡ 0) }
     {
         let repeats = self.take_repeats(at, recorded)?;
-        let delta = self.take_number(repeats.at, 1)?;
-        let turn = self.take_number(delta.at, 5)?;
-        let algorithm = self.take_number(turn.at, 4)?;
-        let kind = self.take_number(algorithm.at, 4)?;
-        let added = self.take_added(kind.at, kind.last, algorithm.value, kind.value)?;
-        match channel(
+        let delta = self.take_number(repeats.end.at, 1)?;
+        let turn = self.take_number(delta.end.at, 5)?;
+        let algorithm = self.take_number(turn.end.at, 4)?;
+        let kind = self.take_number(algorithm.end.at, 4)?;
+        let added = self.take_added(kind.end, algorithm.value, kind.value)?;
+        let row = channel(
             repeats.value,
             delta.value == 1,
             turn.value,
@@ -102,13 +85,8 @@ impl<'a> Source<'a> {
             kind.value,
             added.value.narrow,
             added.value.value,
-        ) {
-            Ok(row) => Ok(Taken {
-                value: row,
-                at: added.at,
-                last: added.last,
-            }),
-            Err(_) => Err(fault_at(Kind::BadSetting, added.last)),
-        }
+        )
+        .map_err(|_| Kind::BadSetting.at(added.end.last))?;
+        Ok(added.with(row))
     }
 }

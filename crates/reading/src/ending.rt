@@ -7,11 +7,10 @@ ghost use Rattle.reading.specs.Blocks.{bytes_at, closing_of};
 
 use crate::block::Block;
 use crate::closing::Closing;
-use crate::field::fault_at;
 use crate::source::Source;
 use crate::taken::Taken;
 use faults::kind::{Fault, Kind};
-use fields::place::BitPlace;
+use fields::place::{BitPlace, Cursor};
 
 impl<'a> Source<'a> {
     // Takes so many bytes as one field.
@@ -21,12 +20,15 @@ impl<'a> Source<'a> {
     {
         let count = 8 * len;
         if !self.remains(at, count) {
-            return Err(fault_at(Kind::InputEnds, at));
+            return Err(Kind::InputEnds.at(at));
         }
-        Ok(Taken {
-            value: Block { at, len },
+        let end = Cursor {
             at: at.plus(count),
             last: at,
+        };
+        Ok(Taken {
+            value: Block { at, len },
+            end,
         })
     }
 
@@ -36,14 +38,10 @@ impl<'a> Source<'a> {
     {
         let count = self.take_number(at, 3)?;
         if count.value == 0 {
-            return Err(fault_at(Kind::LeftoverCount, at));
+            return Err(Kind::LeftoverCount.at(at));
         }
-        let leftovers = self.take_block(count.at, count.value as usize)?;
-        Ok(Taken {
-            value: Closing::Ended(leftovers.value),
-            at: leftovers.at,
-            last: leftovers.last,
-        })
+        let leftovers = self.take_block(count.end.at, count.value as usize)?;
+        Ok(leftovers.with(Closing::Ended(leftovers.value)))
     }
 
     // Takes what closes a section: the tag, and the leftovers if there are any.
@@ -52,18 +50,13 @@ impl<'a> Source<'a> {
     {
         let tag = self.take_number(at, 4)?;
         match tag.value {
-            8 => Ok(Taken {
-                value: Closing::Another,
-                at: tag.at,
-                last: tag.last,
-            }),
-            15 => Ok(Taken {
-                value: Closing::Ended(Block { at: tag.at, len: 0 }),
-                at: tag.at,
-                last: tag.last,
-            }),
-            14 => self.take_leftovers(tag.at),
-            _ => Err(fault_at(Kind::BadTag, at)),
+            8 => Ok(tag.with(Closing::Another)),
+            15 => Ok(tag.with(Closing::Ended(Block {
+                at: tag.end.at,
+                len: 0,
+            }))),
+            14 => self.take_leftovers(tag.end.at),
+            _ => Err(Kind::BadTag.at(at)),
         }
     }
 }

@@ -7,14 +7,7 @@ use crate::source::Source;
 use crate::taken::Taken;
 use faults::kind::{Fault, Kind};
 use fields::field::take_field;
-use fields::place::BitPlace;
-
-// A fault of a kind at a place.
-pub(crate) fn fault_at(kind: Kind, place: BitPlace) -> Fault
-    ensures { result ≡ record { kind = kind; place = place } }
-{
-    Fault { kind, place }
-}
+use fields::place::{BitPlace, Cursor};
 
 impl<'a> Source<'a> {
     // Does a field of so many bits remain? Looks first whether any bit does, and then whether enough do.
@@ -23,33 +16,22 @@ impl<'a> Source<'a> {
         ensures { result ≡ nat_le (at.bits + count) (size (bits_in self.entry)) }
     {
         let end = 8 * self.bytes.len();
-        if at.bits() >= end {
-            return false;
-        }
-        if at.plus(count).bits() > end {
-            return false;
-        }
-        true
+        at.bits() < end && at.plus(count).bits() <= end
     }
 
     // Takes the field of `count` bits at a place, of any value. Fault 11 where it does not remain.
     pub fn take(self, at: BitPlace, count: u32) -> Result<Taken<u64>, Fault>
         ensures { (l : ℕ) → told (λ v. v) result ≡ taking 64 count (bits_in self.entry) at.bits l }
     {
-        if count == 0 {
-            return Err(fault_at(Kind::InputEnds, at));
+        if count == 0 || !self.remains(at, count as usize) {
+            return Err(Kind::InputEnds.at(at));
         }
-        if !self.remains(at, count as usize) {
-            return Err(fault_at(Kind::InputEnds, at));
-        }
-        match take_field(self.bytes, at, count) {
-            None => Err(fault_at(Kind::InputEnds, at)),
-            Some(value) => Ok(Taken {
-                value,
-                at: at.plus(count as usize),
-                last: at,
-            }),
-        }
+        let value = take_field(self.bytes, at, count).ok_or(Kind::InputEnds.at(at))?;
+        let end = Cursor {
+            at: at.plus(count as usize),
+            last: at,
+        };
+        Ok(Taken { value, end })
     }
 
     // Takes the field of `count` bits at a place, at most 32, of any value. Fault 11 where it does not remain.
@@ -57,13 +39,9 @@ impl<'a> Source<'a> {
         ensures { (l : ℕ) → told (λ v. v) result ≡ taking 32 count (bits_in self.entry) at.bits l }
     {
         if count > 32 {
-            return Err(fault_at(Kind::InputEnds, at));
+            return Err(Kind::InputEnds.at(at));
         }
         let taken = self.take(at, count)?;
-        Ok(Taken {
-            value: taken.value as u32,
-            at: taken.at,
-            last: taken.last,
-        })
+        Ok(taken.with(taken.value as u32))
     }
 }

@@ -2,7 +2,7 @@
 use crate::part::Part;
 
 // The stamp, the flag byte, and what is flagged: the size, the name and the extra bytes.
-#[derive(Clone, Copy)]
+#[derive(Clone, Copy, Debug, PartialEq, Eq)]
 pub struct Front {
     pub stamp: u32,
     pub flags: u32,

@@ -8,7 +8,7 @@ ghost use Rattle.reading.specs.Told.{bytes_in, bits_in, told};
 ghost use Rattle.reading.specs.Heads as heads;
 ghost use Rattle.reading.specs.Heads.{part_bytes, size_field, head_in, PartAt, size_room, name_room, name_place, extra_place};
 
-use crate::field::fault_at;
+use crate::flagged::Flag;
 use crate::front::Front;
 use crate::part::Part;
 use crate::source::Source;
@@ -27,7 +27,7 @@ impl<'a> Source<'a> {
         requires { at.bits % 8 ≡ 0 }
         ensures bytes { (l : ℕ) → told (part_bytes (bytes_in self.entry)) result ≡ (name_bytes 255).reads (bits_in self.entry) at.bits l }
         ensures place { IfOk result (λ t. PartAt (bytes_in self.entry) (at.bits / 8) (Some t.value)) }
-        ensures behind { IfOk result (λ t. t.at.bits ≡ at.bits + 8 * (t.value.len + 1)) }
+        ensures behind { IfOk result (λ t. t.end.at.bits ≡ at.bits + 8 * (t.value.len + 1)) }
     {
         are_bytes(self.bytes);
         let start = at.byte();
@@ -35,26 +35,18 @@ impl<'a> Source<'a> {
         for len in 0..MOST_NAME {
             let byte = self.take_number(place, 8)?;
             if byte.value == 0 {
-                return Ok(Taken {
-                    value: Part { at: start, len },
-                    at: byte.at,
-                    last: byte.last,
-                });
+                return Ok(byte.with(Part { at: start, len }));
             }
-            place = byte.at;
+            place = byte.end.at;
         }
         let end = self.take_number(place, 8)?;
         if end.value != 0 {
-            return Err(fault_at(Kind::BadNameOrExtra, place));
+            return Err(Kind::BadNameOrExtra.at(place));
         }
-        Ok(Taken {
-            value: Part {
-                at: start,
-                len: MOST_NAME,
-            },
-            at: end.at,
-            last: end.last,
-        })
+        Ok(end.with(Part {
+            at: start,
+            len: MOST_NAME,
+        }))
     }
 
     // Takes a count and so many extra bytes, which are one field.
@@ -66,100 +58,14 @@ impl<'a> Source<'a> {
         are_bytes(self.bytes);
         let count = self.take_number(at, 16)?;
         let part = Part {
-            at: count.at.byte(),
+            at: count.end.at.byte(),
             len: count.value as usize,
         };
-        if count.value == 0 {
-            return Ok(Taken {
-                value: part,
-                at: count.at,
-                last: count.last,
-            });
+        if part.len == 0 {
+            return Ok(count.with(part));
         }
-        let block = self.take_block(count.at, count.value as usize)?;
-        Ok(Taken {
-            value: part,
-            at: block.at,
-            last: block.last,
-        })
-    }
-
-    // Takes the size, if it is flagged.
-    fn take_size(
-        self,
-        at: BitPlace,
-        last: BitPlace,
-        flagged: bool,
-    ) -> Result<Taken<Option<u32>>, Fault>
-        ensures size { told (λ z. z) result ≡ (size_field flagged).reads (bits_in self.entry) at.bits last.bits }
-        ensures behind { IfOk result (λ t. t.at.bits ≡ at.bits + 8 * size_room t.value) }
-    {
-        if !flagged {
-            return Ok(Taken {
-                value: None,
-                at,
-                last,
-            });
-        }
-        let size = self.take_number(at, 32)?;
-        Ok(Taken {
-            value: Some(size.value),
-            at: size.at,
-            last: size.last,
-        })
-    }
-
-    // Takes the name, if it is flagged.
-    fn take_flagged_name(
-        self,
-        at: BitPlace,
-        last: BitPlace,
-        flagged: bool,
-    ) -> Result<Taken<Option<Part>>, Fault>
-        requires { at.bits % 8 ≡ 0 }
-        ensures bytes { told (option_map (part_bytes (bytes_in self.entry))) result ≡ (slim.flagged flagged (name_bytes 255)).reads (bits_in self.entry) at.bits last.bits }
-        ensures place { IfOk result (λ t. PartAt (bytes_in self.entry) (at.bits / 8) t.value) }
-        ensures behind { IfOk result (λ t. t.at.bits ≡ at.bits + 8 * name_room t.value) }
-    {
-        if !flagged {
-            return Ok(Taken {
-                value: None,
-                at,
-                last,
-            });
-        }
-        let name = self.take_name(at)?;
-        Ok(Taken {
-            value: Some(name.value),
-            at: name.at,
-            last: name.last,
-        })
-    }
-
-    // Takes the extra bytes, if they are flagged.
-    fn take_flagged_extra(
-        self,
-        at: BitPlace,
-        last: BitPlace,
-        flagged: bool,
-    ) -> Result<Taken<Option<Part>>, Fault>
-        requires { at.bits % 8 ≡ 0 }
-        ensures bytes { told (option_map (part_bytes (bytes_in self.entry))) result ≡ (slim.flagged flagged extra_bytes).reads (bits_in self.entry) at.bits last.bits }
-        ensures place { IfOk result (λ t. PartAt (bytes_in self.entry) (at.bits / 8 + 2) t.value) }
-    {
-        if !flagged {
-            return Ok(Taken {
-                value: None,
-                at,
-                last,
-            });
-        }
-        let extra = self.take_extra(at)?;
-        Ok(Taken {
-            value: Some(extra.value),
-            at: extra.at,
-            last: extra.last,
-        })
+        let block = self.take_block(count.end.at, part.len)?;
+        Ok(block.with(part))
     }
 
     // Takes the head of the file.
@@ -171,26 +77,25 @@ impl<'a> Source<'a> {
         let start = BitPlace::new(0);
         let magic = self.take_number(start, 16)?;
         if magic.value != MAGIC {
-            return Err(fault_at(Kind::NotSlim, start));
+            return Err(Kind::NotSlim.at(start));
         }
-        let stamp = self.take_number(magic.at, 32)?;
-        let flags = self.take_number(stamp.at, 8)?;
+        let stamp = self.take_number(magic.end.at, 32)?;
+        let flags = self.take_number(stamp.end.at, 8)?;
         if flags.value >= 64 {
-            return Err(fault_at(Kind::ReservedFlag, stamp.at));
+            return Err(Kind::ReservedFlag.at(stamp.end.at));
         }
-        let size = self.take_size(flags.at, flags.last, flags.value % 2 == 1)?;
-        let name = self.take_flagged_name(size.at, size.last, flags.value / 2 % 2 == 1)?;
-        let extra = self.take_flagged_extra(name.at, name.last, flags.value / 4 % 2 == 1)?;
-        Ok(Taken {
-            value: Front {
-                stamp: stamp.value,
-                flags: flags.value,
-                size: size.value,
-                name: name.value,
-                extra: extra.value,
-            },
-            at: extra.at,
-            last: extra.last,
-        })
+        let sized = Flag::Size.is_set(flags.value);
+        let size = self.take_flagged(sized, flags.end, |file, at| file.take_number(at, 32))?;
+        let named = Flag::Name.is_set(flags.value);
+        let name = self.take_flagged(named, size.end, Source::take_name)?;
+        let extended = Flag::Extra.is_set(flags.value);
+        let extra = self.take_flagged(extended, name.end, Source::take_extra)?;
+        Ok(extra.with(Front {
+            stamp: stamp.value,
+            flags: flags.value,
+            size: size.value,
+            name: name.value,
+            extra: extra.value,
+        }))
     }
 }

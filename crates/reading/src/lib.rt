@@ -7,6 +7,7 @@ pub mod closing;
 pub mod description;
 pub mod ending;
 pub mod field;
+pub mod flagged;
 pub mod front;
 pub mod head;
 pub mod item;

@@ -1,7 +1,7 @@
 // A part of a file, in whole bytes.
 use fields::place::BytePlace;
 
-#[derive(Clone, Copy)]
+#[derive(Clone, Copy, Debug, PartialEq, Eq)]
 pub struct Part {
     pub at: BytePlace,
     pub len: usize,

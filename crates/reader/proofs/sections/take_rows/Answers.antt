@@ -1,49 +1,52 @@
-use Rattle.std.proofs.Common.{◌≡◌, ℕ, ◌<◌, List, map, length, take, refl, subst, arith}
+use Rattle.std.proofs.Common.{◌≡◌, ℕ, ◌<◌, List, map, length, take, refl, ap, ◌∙◌, subst, arith}
 use Rattle.bits.specs.Bits.{bits_of}
 use Rattle.format.specs.Cells.{File}
+use Rattle.format.specs.Format.{got}
 use Rattle.channel.specs.declared.record.Channel.{Channel}
 use Rattle.channel.specs.Records.{rested}
 use Rattle.reading.proofs.Steps.{passed}
 use Rattle.reader.specs.Sections.{rows_in}
-use Rattle.reader.proofs.Rows.{rows_start, rows_step, rows-fault, rows_end, rest_more, none-at-rest}
+use Rattle.reader.proofs.Rows.{rows_start, rows_step, rows-fault, rows_end, rest_more}
 use Rattle.reader.proofs.sections.take_rows.Goals as goal
 
-pub loop-i-init : goal.loop-i-init
-loop-i-init c = (rows_start c.args.recorded (bits_of c.args.source.bytes.now) c.args.count c.args.at.bits c.args.last.bits c.args.table.now, refl, omega arith)
+pub loop-row-init : goal.loop-row-init
+loop-row-init c = (rows_start c.args.recorded (bits_of c.args.source.bytes.now) (length c.args.rows.now) c.args.from.at.bits c.args.from.last.bits c.args.rows.now, refl)
 
-pub returns-in_err-row : goal.returns-in_err-row
-returns-in_err-row c =
+pub returns-in_err-taken-clause-rows : goal.returns-in_err-taken-clause-rows
+returns-in_err-taken-clause-rows c =
     let f : File = bits_of c.args.source.bytes.now in
-    let t : List Channel = c.loop-i.table in
-    let (so_far, _, _) = c.loop-i.invariant in
-    record {
-      rows = passed (rows_in t) c.from_residual.result c.in_err-row.field-0.0 _ c.from_residual.ensures.1
-          (rows-fault c.args.recorded f c.args.count c.args.at.bits c.args.last.bits t c.loop-i.i c.loop-i.end.bits c.loop-i.tried.bits _ _ c.loop-i-test.true so_far
-          (c.in_err-row.ensures.settings c.loop-i.tried.bits));
-      rest = none-at-rest (λ n. n) t c.from_residual.result c.in_err-row.field-0.0 c.from_residual.ensures.1;
-    }
+    let t : List Channel = c.loop-row.rows in
+    let (so_far, _) = c.loop-row.invariant in
+    let i : ℕ = c.loop-row.row-index in
+    let inside : i < length c.args.rows.now = omega (arith, c.loop-row-test.true, c.loop-row.auto.rows) in
+    passed (rows_in _) _ _ _ c.from_residual.ensures.1
+    (rows-fault c.args.recorded f (length c.args.rows.now) c.args.from.at.bits c.args.from.last.bits t i c.loop-row.end.at.bits c.loop-row.end.last.bits _ _ inside so_far (c.in_err-taken.ensures.settings c.loop-row.end.last.bits))
 
-pub loop-i-preserved : goal.loop-i-preserved
-loop-i-preserved c =
+pub loop-row-preserved : goal.loop-row-preserved
+loop-row-preserved c =
     let f : File = bits_of c.args.source.bytes.now in
-    let t : List Channel = c.loop-i.table in
-    let i : ℕ = c.loop-i.i in
-    let row = c.in_ok-row.row in
-    let (so_far, resting, _) = c.loop-i.invariant in
-    let inside : i < length t = omega (arith, c.loop-i-test.true, c.loop-i.auto.table, c.requires) in (
-      rows_step c.args.recorded f c.args.count c.args.at.bits c.args.last.bits t row.value i c.loop-i.end.bits c.loop-i.tried.bits row.at.bits row.last.bits
-          c.loop-i-test.true inside so_far (c.in_ok-row.ensures.settings c.loop-i.tried.bits),
-      rest_more t i row.value inside resting c.in_ok-row.ensures.rest,
-      omega (arith, c.loop-i-test.true),
+    let t : List Channel = c.loop-row.rows in
+    let i : ℕ = c.loop-row.row-index in
+    let x = c.in_ok-taken.taken in
+    let (so_far, resting) = c.loop-row.invariant in
+    let inside : i < length t = omega (arith, c.loop-row-test.true) in
+    let wanted : i < length c.args.rows.now = omega (arith, inside, c.loop-row.auto.rows) in (
+      rows_step c.args.recorded f (length c.args.rows.now) c.args.from.at.bits c.args.from.last.bits t x.value i c.loop-row.end.at.bits c.loop-row.end.last.bits x.end.at.bits x.end.last.bits
+          wanted inside so_far (c.in_ok-taken.ensures.settings c.loop-row.end.last.bits),
+      rest_more t i x.value inside resting c.in_ok-taken.ensures.rest,
     )
 
 pub returns : goal.returns
 returns c =
     let f : File = bits_of c.args.source.bytes.now in
-    let t : List Channel = c.loop-i.table in
-    let (so_far, resting, most) = c.loop-i.invariant in
-    let all : c.loop-i.i ≡ c.args.count = omega (arith, most, c.loop-i-test.false) in
+    let t : List Channel = c.loop-row.rows in
+    let i : ℕ = c.loop-row.row-index in
+    let (so_far, resting) = c.loop-row.invariant in
+    let many : length t ≡ length c.args.rows.now = omega (arith, c.loop-row.auto.rows) in
+    let all : i ≡ length t = omega (arith, c.loop-row-test.false, c.loop-row.auto.row-index-end) in
     record {
-      rows = rows_end c.args.recorded f c.args.count c.args.at.bits c.args.last.bits t c.loop-i.i c.loop-i.end.bits c.loop-i.tried.bits all so_far;
-      rest = (omega (arith, c.loop-i.auto.table, c.requires), subst (λ (n : ℕ). map rested (take n t) ≡ take n t) all resting);
+      rows = ap (λ (n : ℕ). got (rows_in t n) c.loop-row.end.at.bits c.loop-row.end.last.bits) many
+          ∙ rows_end c.args.recorded f (length c.args.rows.now) c.args.from.at.bits c.args.from.last.bits t i c.loop-row.end.at.bits c.loop-row.end.last.bits (all ∙ many) so_far;
+      rest = (omega arith, subst (λ (n : ℕ). map rested (take n t) ≡ take n t) all resting);
+      many = refl;
     }

@@ -1,14 +1,10 @@
-use Rattle.std.proofs.Common.{◌≡◌, ℕ, List, length, refl, ap, ◌∙◌, arith}
-use Rattle.bits.specs.Bits.{bits_of}
-use Rattle.faults.specs.Faults as faults
+use Rattle.std.proofs.Common.{◌≡◌, ℕ, List, length, ap, ◌∙◌, arith}
 use Rattle.faults.specs.Faults.{answered}
-use Rattle.layout.specs.Slim.{chain}
-use Rattle.calls.specs.Calls.{flags}
-use Rattle.state.specs.declared.Flags.{Flags}
-use Rattle.reading.specs.Heads as heads
-use Rattle.reading.specs.Heads.{head_in}
 use Rattle.reader.specs.Unpacking.{unpack_answer, unpack_bytes, body_answer, body_left}
-use Rattle.reader.proofs.Recordings.{handed-on}
+use Rattle.reader.specs.Walks.{Standing, all_sections}
+use Rattle.reader.specs.declared.totals.Totals.{Totals}
+use Rattle.reader.proofs.Walks.{head-back}
+use Rattle.reader.proofs.Recordings.{handed-on, fault_stands}
 use Rattle.reader.proofs.Unpacking.{unread-answer, unread-bytes, unpacks, checked-short, checked-few, no-room-answer, no-room-bytes, checked-head, room_for, written-answer, written-bytes}
 use Rattle.reader.proofs.unpack.unpack.Goals as goal
 
@@ -17,7 +13,7 @@ returns-in_err-totals c =
     let f : List ℕ = c.args.file.now in
     let out : List ℕ = c.args.out.now in
     let a : answered (λ (n : ℕ). n) c.from_residual.result ≡ unpack_answer f (length out)
-    = handed-on (λ (n : ℕ). n) c.from_residual.result c.in_err-totals.field-0.0 _ c.from_residual.ensures.1 (unread-answer f (length out) _ _ c.in_err-totals.ensures.answer) in
+    = handed-on (λ (n : ℕ). n) _ _ _ c.from_residual.ensures.1 (unread-answer f (length out) _ _ c.in_err-totals.ensures.answer) in
     let b : out ≡ unpack_bytes f out = unread-bytes f out _ _ c.in_err-totals.ensures.answer in
     record { answer = a; bytes = b; accepted = unpacks f out _ out a b }
 
@@ -31,38 +27,35 @@ returns-then-totals-out c =
     let f : List ℕ = c.args.file.now in
     let out : List ℕ = c.args.out.now in
     let t = c.in_ok-totals.totals in
-    let a : faults.fault 2 c.new.result.bits ≡ unpack_answer f (length out)
-    = ap (λ (p : ℕ). faults.fault 2 p) c.new.ensures ∙ no-room-answer f t c.in_ok-totals.ensures.answer (length out) (omega (arith, c.if-totals-out.true)) in
+    let a = fault_stands c.at_start.ensures (no-room-answer f t c.in_ok-totals.ensures.answer (length out) (omega (arith, c.if-totals-out.true))) in
     let b : out ≡ unpack_bytes f out = no-room-bytes f t c.in_ok-totals.ensures.answer out (omega (arith, c.if-totals-out.true)) in
     record { answer = a; bytes = b; accepted = unpacks f out _ out a b }
 
-pub invariant_of-source : goal.invariant_of-source
-invariant_of-source c = record { small = checked-short c.args.file.now c.in_ok-totals.totals c.in_ok-totals.ensures.answer }
+pub returns-in_err-walk : goal.returns-in_err-walk
+returns-in_err-walk c =
+    let f : List ℕ = c.args.file.now in
+    absurd (checked-head f c.in_ok-totals.totals c.in_ok-totals.ensures.answer (head-back f _ (checked-short f c.in_ok-totals.totals c.in_ok-totals.ensures.answer) c.in_err-walk.ensures))
 
-pub returns-in_err-head : goal.returns-in_err-head
-returns-in_err-head c =
-    absurd (checked-head c.args.file.now c.in_ok-totals.totals c.in_ok-totals.ensures.answer c.in_err-head.ensures.head)
-
-pub write_sections-requires : goal.write_sections-requires
-write_sections-requires c =
+pub write_all-requires-clause-room : goal.write_all-requires-clause-room
+write_all-requires-clause-room c =
     let f : List ℕ = c.args.file.now in
     let out : List ℕ = c.args.out.now in
-    let t = c.in_ok-head.head in
-    let h : heads.Head = head_in f t.value in
-    let same = ap (λ (g : Flags). (chain (flags g) 64 0).reads (bits_of f) t.at.bits t.last.bits) c.flags_in-flags.ensures in
-    record {
-      table = refl;
-      room = room_for f c.in_ok-totals.totals c.in_ok-totals.ensures.answer h t.at.bits t.last.bits c.in_ok-head.ensures.head (length out) _ same (omega (arith, c.if-totals-out.false));
-    }
+    let t : Totals = c.in_ok-totals.totals in
+    let w = c.in_ok-walk.walk in
+    let (h, e, same) = c.in_ok-walk.ensures in
+    let d = head-back f _ (checked-short f t c.in_ok-totals.ensures.answer) e in
+    room_for f t c.in_ok-totals.ensures.answer h w.end.at.bits w.end.last.bits d (length out) _ (ap all_sections same) (omega (arith, c.if-totals-out.false))
 
 pub returns : goal.returns
 returns c =
     let f : List ℕ = c.args.file.now in
     let out : List ℕ = c.args.out.now in
-    let t = c.in_ok-head.head in
-    let h : heads.Head = head_in f t.value in
-    let a = written-answer f c.in_ok-totals.totals c.in_ok-totals.ensures.answer h t.at.bits t.last.bits c.in_ok-head.ensures.head (length out) _ (omega (arith, c.if-totals-out.false))
-    (c.write_sections.ensures.answer ∙ ap (λ (g : Flags). body_answer ((chain (flags g) 64 0).reads (bits_of f) t.at.bits t.last.bits)) c.flags_in-flags.ensures) in
-    let b = written-bytes f c.in_ok-totals.totals c.in_ok-totals.ensures.answer h t.at.bits t.last.bits c.in_ok-head.ensures.head out _ (omega (arith, c.if-totals-out.false))
-    (c.write_sections.ensures.bytes ∙ ap (λ (g : Flags). body_left ((chain (flags g) 64 0).reads (bits_of f) t.at.bits t.last.bits) out) c.flags_in-flags.ensures) in
+    let t : Totals = c.in_ok-totals.totals in
+    let w = c.in_ok-walk.walk in
+    let (h, e, same) = c.in_ok-walk.ensures in
+    let d = head-back f _ (checked-short f t c.in_ok-totals.ensures.answer) e in
+    let a = written-answer f t c.in_ok-totals.ensures.answer h w.end.at.bits w.end.last.bits d (length out) _ (omega (arith, c.if-totals-out.false))
+    (c.write_all.ensures.answer ∙ ap (λ (s : Standing). body_answer (all_sections s)) same) in
+    let b = written-bytes f t c.in_ok-totals.ensures.answer h w.end.at.bits w.end.last.bits d out _ (omega (arith, c.if-totals-out.false))
+    (c.write_all.ensures.bytes ∙ ap (λ (s : Standing). body_left (all_sections s) out) same) in
     record { answer = a; bytes = b; accepted = unpacks f out _ _ a b }

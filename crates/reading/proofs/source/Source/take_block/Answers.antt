@@ -10,7 +10,7 @@ pub returns-then-not-remains : goal.returns-then-not-remains
 returns-then-not-remains c l =
     let f : File = bits_of c.args.self.bytes.now in
     let short = leb-false _ (size f) (sym c.if-not-remains.ensures) in
-    fault-is c.fault_at.result _ c.args.at _ c.fault_at.ensures
+    fault-is c.at.ensures
     (block-not c.args.len f c.args.at.bits l c.requires.0 (omega (arith, short)))
 
 pub returns : goal.returns

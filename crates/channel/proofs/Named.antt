@@ -1,5 +1,5 @@
 -- What the numbers in a channel's settings name.
-use Rattle.std.proofs.Common.{◌≡◌, ℕ, Ok, Err, arith}
+use Rattle.std.proofs.Common.{◌≡◌, ℕ, ◌<◌, Ok, Err, arith}
 use Rattle.std.proofs.lemmas.Bool.Decides.{nat_tests}
 use Rattle.layout.specs.Channels.{width}
 use Rattle.channel.specs.declared.names.Method.TheVariants.{Null, Reduced, Constant}
@@ -33,3 +33,8 @@ unnamed a u e = (λ i. one i e, λ i. six i e)
 
     six : a ≡ 6 → Err u ≡ method_named a → ⊥
     six i e = grind (arith, nat_tests)
+
+pub size_some : (s : WordSize) → 0 < size_bits s
+size_some Byte = omega arith
+size_some Half = omega arith
+size_some Full = omega arith

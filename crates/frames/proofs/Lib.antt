@@ -4,3 +4,4 @@ pub mod Whole
 pub mod Tables
 pub mod Steps
 pub mod Laws
+pub mod Describable

@@ -1,7 +1,7 @@
 -- What the rules say of a table's rows.
-use Rattle.std.proofs.Common.{◌≡◌, ℕ, ◌+◌, ◌<◌, ◌≤◌, Bool, true, false, ◌&&◌, ltb, leb, List, [], ◌∷◌, length, get_or, drop, sym, ap, ◌∙◌, arith}
+use Rattle.std.proofs.Common.{◌≡◌, ℕ, ◌+◌, ◌<◌, ◌≤◌, true, ◌&&◌, ltb, leb, List, [], ◌∷◌, length, get_or, drop, sym, ap, ◌∙◌, arith}
 use lib.ListN.{length-map}
-use Rattle.std.proofs.lemmas.List.{drop_more, drop_all, get_or-map}
+use Rattle.std.proofs.lemmas.List.{drop_more, get_or-map}
 use Rattle.std.proofs.lemmas.Bool.{and_parts, ltb-true, leb-true}
 use Rattle.layout.specs.Recording as recordings
 use Rattle.layout.specs.Channels.{width, suits, ruled}
@@ -26,16 +26,6 @@ described t i = settings_of (get_or t i no_row)
 ruled-next : (t : List Channel) (i : ℕ) → i < length t → describable true (settings (drop i t)) ≡ (ruled (described t i) && describable true (settings (drop (i + 1) t)))
 unfolding describable
 ruled-next t i l = ap (λ z. describable true (settings z)) (drop_more t i no_row l)
-
-pub ruled-end : (t : List Channel) (i : ℕ) → length t ≤ i → describable true (settings (drop i t)) ≡ true
-unfolding describable
-ruled-end t i l = ap (λ z. describable true (settings z)) (drop_all i t l)
-
-pub row-fails : (t : List Channel) (i : ℕ) (r : Bool) → i < length t → r ≡ ruled (described t i) → r ≡ false → describable true (settings (drop i t)) ≡ false
-row-fails t i r l e f = ruled-next t i l ∙ ap (λ z. z && describable true (settings (drop (i + 1) t))) (sym e ∙ f)
-
-pub row-passes : (t : List Channel) (i : ℕ) (r : Bool) → i < length t → r ≡ ruled (described t i) → r ≡ true → describable true (settings (drop (i + 1) t)) ≡ describable true (settings (drop i t))
-row-passes t i r l e f = sym (ruled-next t i l ∙ ap (λ z. z && describable true (settings (drop (i + 1) t))) (sym e ∙ f))
 
 -- ## A table whose words can be counted
 

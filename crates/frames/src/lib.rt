@@ -3,7 +3,7 @@
 
 pub mod section;
 
-ghost use Rattle.std.specs.Prelude.{◌≡◌, ◌<◌, ◌≤◌, true, if◌then◌else◌, Some, None};
+ghost use Rattle.std.specs.Prelude.{◌≡◌, ◌&&◌, ◌||◌, ◌==◌, ◌<◌, ◌≤◌, true, if◌then◌else◌, Some, None};
 ghost use Rattle.std.specs.Option.{option_map};
 ghost use Rattle.layout.specs.Channels.{ruled};
 ghost use Rattle.layout.specs.Turns.{first, count_words};
@@ -22,16 +22,18 @@ struct Frame {
     bytes: u32,
 }
 
-// Do all rows keep the rules?
-fn rows_ruled(table: &[Channel]) -> bool
-    ensures { result ≡ describable true (settings table.now) }
+// Can a row be described?
+fn row_describable(row: &Channel, recorded: bool) -> bool
+    ensures { result ≡ (ruled (settings_of row.now) && (recorded || (settings_of row.now).repeats == 1)) }
 {
-    for row in table {
-        if !row.keeps_rules() {
-            return false;
-        }
-    }
-    true
+    row.keeps_rules() && (recorded || row.repeats() == 1)
+}
+
+// Can the rows be described? They keep the rules, and repeats that are not recorded are 1.
+pub fn rows_describable(table: &[Channel], recorded: bool) -> bool
+    ensures { result ≡ describable recorded (settings table.now) }
+{
+    table.iter().all(|row| row_describable(row, recorded))
 }
 
 // Can a section have these rows?
@@ -41,7 +43,7 @@ pub fn is_countable(table: &[Channel]) -> bool
     if table.is_empty() || table.len() > MOST_CHANNELS {
         return false;
     }
-    rows_ruled(table)
+    rows_describable(table, true)
 }
 
 // The raw bytes of a row in a frame.

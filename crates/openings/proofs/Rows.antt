@@ -1,6 +1,6 @@
 -- The rows of a table, one after the other.
 use Rattle.std.proofs.Common.{◌≡◌, ℕ, ◌+◌, ◌-◌, ◌*◌, ◌^◌, ◌<◌, ◌≤◌, min, Bool, true, false, cond, ◌&&◌, ◌||◌, eqb, List, [], ◌∷◌, ◌++◌, length, get_or, drop, sym, refl, ap, ◌∙◌, subst, arith, length-append}
-use Rattle.std.specs.List.{list_all, sum_by}
+use Rattle.std.specs.List.{sum_by}
 use Rattle.std.proofs.lemmas.List.Sums.{sum_by-cons}
 use Rattle.std.proofs.lemmas.List.{drop_more, drop_all}
 use Rattle.std.proofs.lemmas.Bool.{and_parts}
@@ -60,21 +60,6 @@ pub most-rows : (kept : Bool) (cs : List recordings.Channel) → length (rows_bi
 unfolding rows_bits
 most-rows kept [] = omega arith
 most-rows kept (c ∷ cs) = omega (arith, length-append (description_bits kept c) (rows_bits kept cs), most-bits kept c, most-rows kept cs)
-
--- a row can be described: it keeps the rules, and repeats that are not recorded are 1
-abbrev pub is_describable : Bool → recordings.Channel → Bool
-is_describable kept c = ruled c && (kept || eqb c.repeats 1)
-
--- the rows can be described exactly if each can
-pub describable-all : (kept : Bool) (t : List Channel) → list_all (λ row. is_describable kept (settings_of row)) t ≡ describable kept (settings t)
-unfolding describable
-describable-all kept [] = refl
-describable-all kept (r ∷ rs) = by_tests (ruled (settings_of r)) (kept || eqb (settings_of r).repeats 1) (describable-all kept rs)
-  where
-    by_tests : (a b : Bool) {x y : Bool} → x ≡ y → ((a && b) && x) ≡ (a && (b && y))
-    by_tests true true e = e
-    by_tests true false e = refl
-    by_tests false b e = refl
 
 pub row-ruled : (kept : Bool) (t : List Channel) (i : ℕ) → i < length t → describable kept (settings (drop i t)) ≡ true → (ruled (row t i) ≡ true) × (describable kept (settings (drop (i + 1) t)) ≡ true)
 row-ruled kept t i h d =

@@ -14,6 +14,7 @@ use channel::record::Channel;
 use fields::bytes::are_bytes;
 use fields::field::put_field;
 use fields::place::{BitPlace, BytePlace};
+use frames::rows_describable;
 use limits::{MOST_BYTES, MOST_CHANNELS};
 use state::Flags;
 
@@ -22,20 +23,6 @@ const NUMBER_LEN: u32 = 32;
 
 // The bits of the channel count.
 const COUNT_LEN: u32 = 24;
-
-// Can a row be described?
-fn row_describable(row: &Channel, recorded: bool) -> bool
-    ensures { result ≡ (ruled (settings_of row.now) && (recorded || (settings_of row.now).repeats == 1)) }
-{
-    row.keeps_rules() && (recorded || row.repeats() == 1)
-}
-
-// Can the rows be described? They keep the rules, and repeats that are not recorded are 1.
-pub fn rows_describable(table: &[Channel], recorded: bool) -> bool
-    ensures { result ≡ describable recorded (settings table.now) }
-{
-    table.iter().all(|row| row_describable(row, recorded))
-}
 
 // How many bits the raw size and the pointer take.
 fn zeros_len(flags: Flags) -> u32

@@ -13,7 +13,6 @@ use crate::opening::Opening;
 use crate::outline::Outline;
 use crate::walk::Walk;
 use faults::kind::{Fault, Kind};
-use fields::place::Cursor;
 use frames::count_words;
 use limits::MOST_SECTIONS;
 use reading::taken::Taken;
@@ -26,10 +25,9 @@ impl<'a> Walk<'a> {
         ensures { let s = standing self.now in told (outline_in (bits_of s.file)) result ≡ seen outline ((rest (has_room s) (head_in self.now.rows opening.value)).reads (bits_of s.file) opening.end.at.bits opening.end.last.bits) }
     {
         let Opening { raw, pointer, rows } = opening.value;
-        let Cursor { at, last } = opening.end;
         let rows = &self.rows[..rows];
-        let words = count_words(rows, raw).ok_or(Kind::PartialWord.at(last))?;
-        let passed = pass_words(self.source.bytes, at, last, rows, words)?;
+        let words = count_words(rows, raw).ok_or(Kind::PartialWord.at(opening.end.last))?;
+        let passed = pass_words(self.source.bytes, opening.end, rows, words)?;
         let room = self.sections + 1 < MOST_SECTIONS;
         let closing = take_end(self.source, passed.at, room)?;
         let padding = take_padding(self.source, closing.end)?;

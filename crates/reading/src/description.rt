@@ -1,7 +1,6 @@
 // The description of a channel.
 ghost use Rattle.std.specs.Prelude.{◌≡◌, ℕ, IfOk};
 ghost use Rattle.format.specs.Format.{choose, field, whole, Format};
-ghost use Rattle.layout.specs.Channels.{width};
 ghost use Rattle.layout.specs.Slim as slim;
 ghost use Rattle.layout.specs.Slim.{any};
 ghost use Rattle.channel.specs.Records.{settings_of};
@@ -11,7 +10,8 @@ ghost use Rattle.reading.specs.Descriptions.{with_added};
 use crate::added::Added;
 use crate::source::Source;
 use crate::taken::Taken;
-use channel::make::{channel, width_of};
+use channel::make::channel;
+use channel::names::{Method, WordSize};
 use channel::record::Channel;
 use faults::kind::{Fault, Kind};
 use fields::place::{BitPlace, Cursor};
@@ -34,7 +34,6 @@ impl<'a> Source<'a> {
     fn take_added(self, from: Cursor, algorithm: u32, kind: u32) -> Result<Taken<Added>, Fault>
         ensures { (n d b : ℕ) → told (with_added n d b algorithm kind) result ≡ (slim.added n d b algorithm kind).reads (bits_in self.entry) from.at.bits from.last.bits }
     {
-        let width = width_of(kind);
         let nothing = Taken {
             value: Added {
                 narrow: 0,
@@ -42,26 +41,29 @@ impl<'a> Source<'a> {
             },
             end: from,
         };
-        if width == 0 {
+        let Ok(size) = WordSize::try_from(kind) else {
             return Ok(nothing);
-        }
-        match algorithm {
-            1 => {
-                let pedestal = self.take_number(from.at, width)?;
+        };
+        let Ok(method) = Method::try_from(algorithm) else {
+            return Ok(nothing);
+        };
+        match method {
+            Method::Null => Ok(nothing),
+            Method::Reduced => {
+                let pedestal = self.take_number(from.at, size.bits())?;
                 let less = self.take_number(pedestal.end.at, 5)?;
                 Ok(less.with(Added {
                     narrow: less.value + 1,
                     value: pedestal.value,
                 }))
             }
-            6 => {
-                let word = self.take_number(from.at, width)?;
+            Method::Constant => {
+                let word = self.take_number(from.at, size.bits())?;
                 Ok(word.with(Added {
                     narrow: 0,
                     value: word.value,
                 }))
             }
-            _ => Ok(nothing),
         }
     }
 

@@ -7,8 +7,9 @@ use crate::rows::rest;
 use crate::states::{Between, Inside, Refused};
 use channel::record::Channel;
 use faults::kind::Kind;
+use frames::rows_describable;
 use limits::MOST_CHANNELS;
-use openings::{put_opening, rows_describable};
+use openings::put_opening;
 use state::{Flags, Spot};
 
 // May a section not have so many channels?

@@ -77,7 +77,7 @@ impl Inside {
             return Err(Kind::OverLimit.at(spot.at));
         }
         let put = coder.put(row.memory(), word, buffer, spot.at)?;
-        table[spot.channel] = row.remembering(put.memory);
+        table[spot.channel] = row.remembering(put.next);
         self.spot = moved_on(spot, &row, put.len);
         Ok(put.len)
     }

@@ -2,8 +2,8 @@ use Rattle.std.proofs.Common.{◌∙◌, rules}
 use Rattle.std.proofs.lemmas.Iterator.{YieldsList-from_slice}
 use Rattle.std.proofs.lemmas.Iterator.Search.{all_from_yields_List}
 use Rattle.channel.specs.Records.{settings_of}
-use Rattle.openings.proofs.Rows.{is_describable, describable-all}
-use Rattle.openings.proofs.rows_describable.Goals as goal
+use Rattle.frames.proofs.Describable.{is_describable, describable-all}
+use Rattle.frames.proofs.rows_describable.Goals as goal
 
 pub returns : goal.returns
 returns c =

@@ -4,7 +4,6 @@ use Rattle.bits.specs.Bits.{bits, put_bits}
 use Rattle.layout.specs.Slim.{most_bytes, is_given}
 use Rattle.calls.specs.Parts.{marks_byte}
 use Rattle.calls.specs.Calls.{marks, head, name_fits, extra_fits}
-use Rattle.calls.proofs.Chains.{head_length}
 use Rattle.heads.specs.declared.Head.{Head}
 
 -- the buffer keeps the limit, name and extra bytes keep theirs, and the head fits
@@ -20,10 +19,6 @@ first_bits stamp byte sized = bits 16 0x4c53 ++ (bits 32 stamp ++ (bits 8 byte +
 -- the flag byte
 abbrev pub flags_in : Head → ℕ
 flags_in h = marks_byte (marks h.flags) (is_given (option_copied h.name)) (is_given (option_copied h.extra))
-
--- how many bits the head has
-abbrev pub size_of : Head → ℕ
-size_of h = head_length (marks h.flags) (option_copied h.name) (option_copied h.extra)
 
 -- the head, with a size of 0
 abbrev pub head_of : Head → List Bool

@@ -6,7 +6,7 @@ ghost use Rattle.std.specs.Option.{option_map};
 ghost use Rattle.bits.specs.Bits.{bits_of, put_bits};
 ghost use Rattle.calls.specs.Parts.{name_bits, extra_bits};
 ghost use Rattle.calls.specs.Calls.{zero_free, name_fits, extra_fits};
-ghost use Rattle.heads.specs.Heads.{first_bits, flags_in, size_of, head_end, head_bytes};
+ghost use Rattle.heads.specs.Heads.{first_bits, flags_in, head_of, head_end, head_bytes};
 
 use fields::bytes::are_bytes;
 use fields::field::put_field;
@@ -89,7 +89,7 @@ impl Head<'_> {
     fn size(&self) -> usize
         requires name { name_fits (option_copied self.now.name) ≡ true }
         requires extra { extra_fits (option_copied self.now.extra) ≡ true }
-        ensures { 8 * result ≡ size_of self.now }
+        ensures { 8 * result ≡ length (head_of self.now) }
     {
         let first = if self.flags.sized {
             SIZE_END

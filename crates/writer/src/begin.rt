@@ -10,7 +10,7 @@ use heads::{Head, extra_fits, name_fits, put_head};
 use limits::MOST_BYTES;
 use state::{Edge, Flags};
 
-// No name, or no extra bytes.
+// No name, or no extra bytes. A plain `None` says the same.
 pub fn absent<'a>() -> Option<&'a [u8]>
     ensures { result ≡ None }
 {

@@ -12,7 +12,7 @@ use limits::MOST_CHANNELS;
 use openings::put_opening;
 use state::{Flags, Spot};
 
-// May a section not have so many channels?
+// May a section not have so many channels? It is no method of the flags, whose crate knows no limits.
 fn is_wrong_count(flags: Flags, count: usize) -> bool
     ensures { result ≡ wrong_count flags count }
 {

@@ -43,6 +43,7 @@ pub struct Refused<W> {
 }
 
 impl<W> Refused<W> {
+    // Each call that ends a state makes one by hand: `?` would leave without the writer.
     pub(crate) fn new(writer: W, fault: Fault) -> Refused<W>
         ensures writer { result.writer ≡ writer }
         ensures fault { result.fault ≡ fault }

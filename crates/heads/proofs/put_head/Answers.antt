@@ -14,7 +14,7 @@ returns-then-size-buffer c =
     let h : Head = c.args.head.now in
     let f : List ℕ = c.args.buffer.now in
     let t : fits h (length f) ≡ false =
-    too_long (option_copied h.name) (option_copied h.extra) (head_of h) (length f) c.size.result (c.size.ensures ∙ sym (head-length h.stamp (marks h.flags) (option_copied h.name) (option_copied h.extra) 0)) c.if-size-buffer.true in
+    too_long (option_copied h.name) (option_copied h.extra) (head_of h) (length f) c.size.result c.size.ensures c.if-size-buffer.true in
     record {
       place = sym (ap (λ b. cond {A = Option ℕ} b (Some (length (head_of h) / 8)) None) t);
       bytes = sym (ap (λ b. cond b (put_bits f 0 (head_of h)) f) t);
@@ -23,19 +23,19 @@ returns-then-size-buffer c =
 pub put_first-at-requires : goal.put_first-at-requires
 put_first-at-requires c =
     let h : Head = c.args.head.now in
-    first-room (marks h.flags) (option_copied h.name) (option_copied h.extra) (8 * length c.args.buffer.now) (omega (arith, c.size.ensures, c.if-size-buffer.false))
+    first-room (marks h.flags) (option_copied h.name) (option_copied h.extra) (8 * length c.args.buffer.now) (omega (arith, head-length h.stamp (marks h.flags) (option_copied h.name) (option_copied h.extra) 0, c.size.ensures, c.if-size-buffer.false))
 
 pub put_name-at-requires-clause-room : goal.put_name-at-requires-clause-room
 put_name-at-requires-clause-room c =
     let h : Head = c.args.head.now in
     let k : length c.put_first-at.new.buffer ≡ length c.args.buffer.now = c.put_first-at.auto.buffer in
-    name-room (marks h.flags) (option_copied h.name) (option_copied h.extra) (8 * c.put_first-at.result) (8 * length c.put_first-at.new.buffer) c.put_first-at.ensures.place (omega (arith, k, c.size.ensures, c.if-size-buffer.false))
+    name-room (marks h.flags) (option_copied h.name) (option_copied h.extra) (8 * c.put_first-at.result) (8 * length c.put_first-at.new.buffer) c.put_first-at.ensures.place (omega (arith, k, head-length h.stamp (marks h.flags) (option_copied h.name) (option_copied h.extra) 0, c.size.ensures, c.if-size-buffer.false))
 
 pub put_extra-at-requires-clause-room : goal.put_extra-at-requires-clause-room
 put_extra-at-requires-clause-room c =
     let h : Head = c.args.head.now in
     let k : length c.put_name-at.new.buffer ≡ length c.args.buffer.now = c.put_name-at.auto.buffer ∙ c.put_first-at.auto.buffer in
-    extra-room (marks h.flags) (option_copied h.name) (option_copied h.extra) (8 * c.put_first-at.result) (8 * c.put_name-at.result) (8 * length c.put_name-at.new.buffer) c.put_first-at.ensures.place c.put_name-at.ensures.place (omega (arith, k, c.size.ensures, c.if-size-buffer.false))
+    extra-room (marks h.flags) (option_copied h.name) (option_copied h.extra) (8 * c.put_first-at.result) (8 * c.put_name-at.result) (8 * length c.put_name-at.new.buffer) c.put_first-at.ensures.place c.put_name-at.ensures.place (omega (arith, k, head-length h.stamp (marks h.flags) (option_copied h.name) (option_copied h.extra) 0, c.size.ensures, c.if-size-buffer.false))
 
 pub returns : goal.returns
 returns c =
@@ -45,7 +45,7 @@ returns c =
     let extra : Option (List ℕ) = option_copied h.extra in
     let m : Marks = marks h.flags in
     let l : length (head_of h) ≡ head_length m name extra = head-length h.stamp m name extra 0 in
-    let t : fits h (length f) ≡ true = fitting name extra (head_of h) (length f) c.size.result (c.size.ensures ∙ sym l) (omega (arith, c.if-buffer-gt-MOST_BYTES.false)) (sym c.if-not-name_fits.ensures) (sym c.if-not-extra_fits.ensures) c.if-size-buffer.false in
+    let t : fits h (length f) ≡ true = fitting name extra (head_of h) (length f) c.size.result c.size.ensures (omega (arith, c.if-buffer-gt-MOST_BYTES.false)) (sym c.if-not-name_fits.ensures) (sym c.if-not-extra_fits.ensures) c.if-size-buffer.false in
     let p : ℕ = 8 * c.put_first-at.result in
     let q : ℕ = 8 * c.put_name-at.result in
     let r : c.put_extra-at.result ≡ length (head_of h) / 8 = whole_length m name extra p q c.put_extra-at.result c.put_first-at.ensures.place c.put_name-at.ensures.place c.put_extra-at.ensures.place ∙ ap (λ z. z / 8) (sym l) in
@@ -53,7 +53,7 @@ returns c =
     c.put_extra-at.ensures.bytes
     ∙ ap (λ z. put_bits z q (extra_bits extra)) c.put_name-at.ensures.bytes
     ∙ ap (λ z. put_bits (put_bits z p (name_bits name)) q (extra_bits extra)) c.put_first-at.ensures.bytes
-    ∙ head-put f h.stamp m name extra p q c.put_first-at.ensures.place c.put_name-at.ensures.place (omega (arith, c.size.ensures, c.if-size-buffer.false)) in
+    ∙ head-put f h.stamp m name extra p q c.put_first-at.ensures.place c.put_name-at.ensures.place (omega (arith, l, c.size.ensures, c.if-size-buffer.false)) in
     record {
       place = ap Some (c.new.ensures ∙ r) ∙ sym (ap (λ b. cond {A = Option ℕ} b (Some (length (head_of h) / 8)) None) t);
       bytes = w ∙ sym (ap (λ b. cond b (put_bits f 0 (head_of h)) f) t);

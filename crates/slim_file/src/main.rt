@@ -3,30 +3,19 @@
 
 mod recorder;
 
+use hex_lines::HexLines;
 use recorder::{MOST_RAW, record_bytes};
 use std::io::Read;
 
 // Room for the file.
 const ROOM: usize = 65536;
 
-// Sixteen bytes a line, in hexadecimal.
-fn print_bytes(rt: &HostRuntime, bytes: &[u8]) -> anyhow::Result<()> {
-    for (i, byte) in bytes.iter().enumerate() {
-        if i % 16 == 15 || i + 1 == bytes.len() {
-            println!(rt; "{byte:02x}")?;
-        } else {
-            print!(rt; "{byte:02x} ")?;
-        }
-    }
-    Ok(())
-}
-
 // Prints the file of raw bytes and how many bytes it has, or the fault.
 fn run(rt: &HostRuntime, raw: &[u8]) -> anyhow::Result<()> {
     let mut buffer = vec![in rt.alloc(); 0u8; ROOM]?;
     match record_bytes(raw, &mut buffer) {
         Ok(size) => {
-            print_bytes(rt, &buffer[0..size])?;
+            print!(rt; "{}", HexLines(&buffer[..size]))?;
             println!(rt; "bytes {size}")?;
         }
         Err(fault) => println!(rt; "{fault}")?,

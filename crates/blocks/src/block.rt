@@ -114,7 +114,7 @@ fn put_word_at(raw: &mut [u8], index: usize, word: u32, size: u32)
     put_raw_word(&mut raw[p..p + n], BytePlace::new(0), word, size);
 }
 
-// Reads so many words, which are there, and writes them out.
+// Reads so many words, which are there, and writes them out. The index says where each goes.
 fn unpack<C: Coder>(coder: &C, block: &[u8], count: usize, out: &mut [u8])
     requires few { count ≤ 65536 }
     requires room { bytes_per (C.Coder.wide coder.now) * count ≤ length out.old }

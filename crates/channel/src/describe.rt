@@ -81,6 +81,7 @@ impl Channel {
 
     // Writes the description of a row that keeps the rules at a place and changes no other bit.
     // False, and nothing is written, where the row does not, or the buffer is over 16,777,216 bytes, or the description would pass its end.
+    // A bool, since there is one refusal, and a caller that has shown the room lets the answer go.
     pub fn put_description(&self, buffer: &mut [u8], at: BitPlace, recorded: bool) -> bool
         ensures put { result ≡ describes (settings_of self.now) (description_bits recorded (settings_of self.now)) at.bits (length buffer.old) }
         ensures bytes { buffer.new ≡ (if describes (settings_of self.now) (description_bits recorded (settings_of self.now)) at.bits (length buffer.old) then put_bits buffer.old at.bits (description_bits recorded (settings_of self.now)) else buffer.old) }

@@ -103,6 +103,7 @@ impl Channel {
 }
 
 // A record with these settings at its starting memory, or fault 6.
+// They are plain numbers, one by one, as a host hands them; what they name is judged here.
 pub fn channel(
     repeats: u32,
     delta: bool,

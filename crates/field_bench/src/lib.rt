@@ -16,7 +16,7 @@ fn value(index: usize) -> u64
 }
 
 // Packs so many fields from the buffer's first bit on, and answers how many bytes they take.
-// -1 where a field has over 64 bits or they would pass the buffer's end.
+// -1 where a field has over 64 bits or they would pass the buffer's end: C has no Result.
 #[unsafe(no_mangle)]
 pub extern "C" fn fields_pack(buffer: &mut [u8], count: usize, width: u32) -> i64
     ensures size { result ≡ packed_size width count (length buffer.old) }
@@ -41,7 +41,7 @@ pub extern "C" fn fields_pack(buffer: &mut [u8], count: usize, width: u32) -> i6
 }
 
 // Reads so many fields from the file's first bit on, and answers a checksum of their values.
-// 0 where a field has over 64 bits or the file ends before the last of them.
+// 0 where a field has over 64 bits or the file ends before the last of them: C has no Option.
 #[unsafe(no_mangle)]
 pub extern "C" fn fields_checksum(file: &[u8], count: usize, width: u32) -> u64
     ensures { result ≡ (if nat_le width 64 then checksum file.now width count 0 0 else 0) }

@@ -40,6 +40,7 @@ impl Accumulator {
 
     // Appends the low `count` bits of `value` to what waits, and writes what fills eight bytes.
     // False, and nothing is changed, where there are over 64 bits or they would pass the buffer's end.
+    // A bool, since there is one refusal, and a caller that has shown the room lets the answer go.
     pub fn push(&mut self, buffer: &mut [u8], value: u64, count: u32) -> bool
         ensures pushed { result ≡ is_field (held_end self.old.place self.old.have) count (length buffer.old) }
         ensures held { held buffer.new self.new.place self.new.word self.new.have ≡ (if result then put_bits (held buffer.old self.old.place self.old.word self.old.have) (held_end self.old.place self.old.have) (bits count value) else held buffer.old self.old.place self.old.word self.old.have) }
@@ -73,6 +74,7 @@ impl Accumulator {
     }
 
     // Writes the bits that still wait. False, and nothing is changed, where they would pass the buffer's end.
+    // A bool, since there is one refusal, and a caller that has shown the room lets the answer go.
     pub fn finish(self, buffer: &mut [u8]) -> bool
         ensures finished { result ≡ nat_le (held_end self.place self.have) (8 * length buffer.old) }
         ensures bytes { buffer.new ≡ (if leb (held_end self.place self.have) (8 * length buffer.old) then held buffer.old self.place self.word self.have else buffer.old) }

@@ -36,6 +36,7 @@ fn put_inside(buffer: &mut [u8], at: usize, value: u64, count: u32)
 
 // Writes the low `count` bits of `value` at a place and changes no other bit.
 // False, and nothing is written, where there are over 64 bits or they would pass the buffer's end.
+// A bool, since there is one refusal, and a caller that has shown the room lets the answer go.
 pub fn put_field(buffer: &mut [u8], at: BitPlace, value: u64, count: u32) -> bool
     ensures put { result ≡ is_field at.bits count (length buffer.old) }
     ensures bytes { buffer.new ≡ (if is_field at.bits count (length buffer.old) then put_bits buffer.old at.bits (bits count value) else buffer.old) }

@@ -6,6 +6,7 @@ use crate::bytes::are_bytes;
 use crate::place::BytePlace;
 
 // Writes a number into a part of four bytes. False, and nothing is written, where the part has another length.
+// A bool, since there is one refusal, and a caller that has shown the room lets the answer go.
 pub fn write_u32(part: &mut [u8], value: u32) -> bool
     ensures written { result ≡ (length part.old == 4) }
     ensures bytes { part.new ≡ (if nat_eq (length part.old) 4 then bytes 4 (bits 32 value) else part.old) }
@@ -24,10 +25,12 @@ pub fn read_u32(part: &[u8]) -> Option<u32>
     if part.len() != 4 {
         return None;
     }
+    // Written out, so that it is seen which byte is which.
     Some(u32::from_le_bytes([part[0], part[1], part[2], part[3]]))
 }
 
 // Lends the four bytes from a place on to the writer of numbers. False, and nothing is written, where they would pass the buffer's end.
+// A bool, since there is one refusal, and a caller that has shown the room lets the answer go.
 pub fn put_u32(buffer: &mut [u8], at: BytePlace, value: u32) -> bool
     ensures put { result ≡ nat_le (at.bytes + 4) (length buffer.old) }
     ensures bytes { buffer.new ≡ (if leb (at.bytes + 4) (length buffer.old) then put_bits buffer.old (8 * at.bytes) (bits 32 value) else buffer.old) }

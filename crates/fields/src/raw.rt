@@ -24,6 +24,7 @@ pub fn raw_word(raw: &[u8], at: BytePlace, size: u32) -> Option<u32>
     if !lies_raw(p, size, raw.len()) {
         return None;
     }
+    // By cases, since a copy of a length that is not constant is a call, once for each word.
     match size {
         1 => Some(raw[p] as u32),
         2 => Some(u16::from_le_bytes([raw[p], raw[p + 1]]) as u32),
@@ -33,6 +34,7 @@ pub fn raw_word(raw: &[u8], at: BytePlace, size: u32) -> Option<u32>
 }
 
 // Writes the low bytes of a word at a place. False, and nothing is written, where that is no word of one to four bytes within the slice.
+// A bool, since there is one refusal, and a caller that has shown the room lets the answer go.
 pub fn put_raw_word(raw: &mut [u8], at: BytePlace, word: u32, size: u32) -> bool
     ensures put { result ≡ is_raw at.bytes size (length raw.old) }
     ensures bytes { raw.new ≡ (if is_raw at.bytes size (length raw.old) then put_bits raw.old (8 * at.bytes) (bits (8 * size) word) else raw.old) }

@@ -10,7 +10,7 @@ use writer::begin::begin;
 use writer::states::{Filled, Refused};
 
 // Begins a file with stamp 0 and the size flagged, fills its first section with the 16-bit words of one channel, and answers how many bits they take.
-// `delta` is 1 where differences are written. 0 where a call meets a fault; nothing is written where the settings do not keep the rules.
+// `delta` is 1 where differences are written. 0 where a call meets a fault, as C has no Result; nothing is written where the settings do not keep the rules.
 #[unsafe(no_mangle)]
 pub extern "C" fn fill_halves(
     delta: u32,

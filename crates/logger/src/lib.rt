@@ -10,7 +10,7 @@ use coder::delta::Delta;
 use coders::kinds::Reduced;
 use faults::kind::{Fault, Kind};
 
-// A count as it is, and a fault as its number negated.
+// A count as it is, and a fault as its number negated: C has no Result.
 fn host_answer(res: Result<usize, Fault>) -> i64
     requires { IfOk res (λ n. n ≤ 4194304) }
     ensures { result ≡ hosted (answered (λ n. n) res) }
@@ -41,7 +41,7 @@ fn pack_channel(
     }
 }
 
-// Reads with the channel that the settings name.
+// Reads with the channel that the settings name. The choice stands here again, since each coder has a type of its own.
 fn read_channel(
     delta: u32,
     narrow: u32,

@@ -32,6 +32,7 @@ impl<'a> Source<'a> {
         are_bytes(self.bytes);
         let start = at.byte();
         let mut place = at;
+        // Byte by byte and no search, since each is a field whose fault has a place of its own.
         for len in 0..MOST_NAME {
             let byte = self.take_number(place, 8)?;
             if byte.value == 0 {

@@ -84,7 +84,8 @@ pub(crate) fn take_next(
     Ok(word)
 }
 
-// Reads so many words of rows in turn.
+// Reads so many words of rows in turn. The loop of `Passing` over another state: a trait for both would have to say the code
+// and the step of each as ghost members, which is more than the loop.
 fn pass_rows(file: &[u8], from: Cursor, rows: Rows, count: u32) -> Result<Cursor, Fault>
     requires { length file.now ≤ 16777216 }
     ensures { told result ≡ places ((words_from (settings rows.entry.table.now) count (first_turn (settings rows.entry.table.now))).reads (bits_of file.now) from.at.bits from.last.bits) }

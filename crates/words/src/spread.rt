@@ -54,7 +54,8 @@ impl Work for Spreading<'_> {
     }
 }
 
-// The words of rows in turn.
+// The words of rows in turn. The loop of `Spreading` over another state: a trait for both would have to say the code, the step
+// and the size of each as ghost members, which is more than the loop.
 fn spread_rows(
     file: &[u8],
     at: BitPlace,
@@ -86,6 +87,7 @@ fn spread_rows(
 // Reads so many words of a section from a place on, the memories of all channels afresh, and writes them as raw bytes
 // from a byte on: low byte first, each as wide as its channel's words. True where all were read and had room.
 // Where one was not, those before it are written. Nothing is where no section can have these rows or the file is over the limit.
+// A bool, since the one who asks has checked the file and lets the answer go.
 pub fn spread_words(
     file: &[u8],
     at: BitPlace,

@@ -8,5 +8,6 @@ pub(crate) struct Turn {
     pub(crate) channel: usize,
     // how many words it has given in a row
     pub(crate) given: u32,
+    // one for each row, beside the rows, which are lent and stay as they are
     pub(crate) memories: [u32; MOST_CHANNELS],
 }

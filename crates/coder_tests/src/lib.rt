@@ -18,10 +18,9 @@ use std::test::Fail;
 // A word's form: its bits as a number, and how many there are.
 #[cfg(test)]
 fn form<C: Coder>(coder: &C, memory: C::Memory, word: u32) -> Option<(u64, u32)> {
-    match coder.encode(memory, word) {
-        Some(coded) => Some((coded.form.bits, coded.form.len)),
-        None => None,
-    }
+    coder
+        .encode(memory, word)
+        .map(|coded| (coded.form.bits, coded.form.len))
 }
 
 // Does the constant say the width?

@@ -37,7 +37,7 @@ fn place(answer: Result<usize, Fault>) -> usize {
 // How many bytes some bits take.
 #[cfg(test)]
 fn bytes(bits: usize) -> usize {
-    bits / 8 + (bits % 8 + 7) / 8
+    bits.div_ceil(8)
 }
 
 // Packs words into so many bits and reads them back; what lies past either result stays.

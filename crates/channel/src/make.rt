@@ -10,6 +10,13 @@ use crate::record::{Channel, Settings};
 use faults::kind::{Fault, Kind};
 use limits::MOST_REPEATS;
 
+// The width of a type's words, and 0 where the type is not covered.
+pub fn width_of(kind: u32) -> u32
+    ensures { result ≡ width kind }
+{
+    WordSize::try_from(kind).map_or(0, |size| size.bits())
+}
+
 // Do R and the value suit the algorithm, for words of a size?
 fn suits_algorithm(size: WordSize, algorithm: u32, narrow: u32, value: u32) -> bool
     ensures { result ≡ suits (size_bits size) algorithm narrow value }
@@ -103,7 +110,7 @@ impl Channel {
 }
 
 // A record with these settings at its starting memory, or fault 6.
-// They are plain numbers, one by one, as a host hands them; what they name is judged here.
+// They are plain numbers, as in a row; what they name is judged here.
 pub fn channel(
     repeats: u32,
     delta: bool,

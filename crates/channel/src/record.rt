@@ -1,4 +1,4 @@
-// A row of a channel table. No invariant is in its type: what uses a row judges it.
+// A row of a channel table. No invariant is in its type, and what it names is said by numbers: what uses a row judges it.
 
 // A channel's settings.
 #[derive(Clone, Copy)]

@@ -22,7 +22,8 @@ use coders::pile::Pile;
 use faults::kind::Fault;
 use fields::place::BitPlace;
 
-// A coder whose memory is one word, as a channel keeps it.
+// A coder whose memory is one word, as a channel keeps it. A trait of its own, since a bound with a pair in a trait's method,
+// `Coder<Memory = (u32, ())>`, gets no proof for an impl in another crate.
 pub trait PileCoder {
     ghost wide: { Self → ℕ };
 
@@ -119,7 +120,7 @@ fn run_turned<C: Coder<Memory = (u32, ())> + Copy, T: Work>(
     work.run(&Turn { inner, by }, buffer)
 }
 
-// Chooses the algorithm and whether differences are taken once, for all words.
+// Chooses the algorithm and whether differences are taken once, for all words. Written out, since no closure is generic over the coder.
 fn run_pile<const W: u32, T: Work>(pile: &Pile<W>, work: T, buffer: &mut [u8]) -> T::Answer
     ensures { T.Does work W (pile_coding W pile.now) buffer.old result buffer.new }
 {

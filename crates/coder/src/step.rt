@@ -7,7 +7,7 @@ pub struct Put<M> {
     pub next: M,
 }
 
-// A word was taken: its form has so many bits, and this is the memory behind it.
+// A word was read: its form has so many bits, and this is the memory behind it.
 #[derive(Clone, Copy)]
 pub struct Taken<M> {
     pub word: u32,

@@ -7,7 +7,8 @@ use crate::bytes::are_bytes;
 use crate::place::BitPlace;
 use crate::word::{lies_within, low, put_by_bytes, reaches, store};
 
-// The bits that wait, `have` of them in `word`; the first belongs at the byte `place`.
+// The bits that wait, `have` of them in `word`; the first belongs at the byte `place`. The buffer is lent at each call, since the promise
+// holds of any that is handed in.
 #[derive(Clone, Copy)]
 pub struct Accumulator {
     place: usize,

@@ -25,7 +25,7 @@ pub fn read_u32(part: &[u8]) -> Option<u32>
     if part.len() != 4 {
         return None;
     }
-    // Written out, so that it is seen which byte is which.
+    // Byte by byte, so that an edit can take a wrong one.
     Some(u32::from_le_bytes([part[0], part[1], part[2], part[3]]))
 }
 

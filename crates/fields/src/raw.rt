@@ -24,7 +24,6 @@ pub fn raw_word(raw: &[u8], at: BytePlace, size: u32) -> Option<u32>
     if !lies_raw(p, size, raw.len()) {
         return None;
     }
-    // By cases, since a copy of a length that is not constant is a call, once for each word.
     match size {
         1 => Some(raw[p] as u32),
         2 => Some(u16::from_le_bytes([raw[p], raw[p + 1]]) as u32),

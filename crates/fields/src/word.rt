@@ -55,7 +55,7 @@ pub(crate) fn store(buffer: &mut [u8], p: usize, word: u64)
     buffer[p..p + 8].copy_from_slice(&word.to_le_bytes());
 }
 
-// A field written byte by byte, for the last bytes of a buffer.
+// A field written byte by byte, for the last bytes of a buffer. By recursion, since the promise is that of the rest.
 pub(crate) fn put_by_bytes(buffer: &mut [u8], p: usize, shift: u32, value: u64, count: u32)
     requires { (shift < 8) × ((count ≤ 64) × (8 * p + shift + count ≤ 8 * length buffer.old)) }
     ensures { bits_of buffer.new ≡ overwritten (bits_of buffer.old) (8 * p + shift) (bits count value) }

@@ -1,8 +1,7 @@
 // The limits of a slim file.
 #![tactic(auto)]
 
-// The most bytes of a file. Private functions that are lent a buffer of so many bytes require the bound one by one: a type for it
-// would have to hold the lent buffer, which its users then could not lend on.
+// The most bytes of a file.
 pub const MOST_BYTES: usize = 16_777_216;
 
 // The most raw bytes of a file's sections together.

@@ -30,6 +30,7 @@ impl Flag {
 
 impl<'a> Source<'a> {
     // Takes what `take` takes of this file, if it is flagged. The file is handed to `take`, since a closure that holds it says nothing of its result here.
+    // It requires that `take` may be called, as any function must that is handed another.
     pub fn take_flagged<T: Copy, F: FnOnce(Source<'a>, BitPlace) -> Result<Taken<T>, Fault>>(
         self,
         flagged: bool,

@@ -14,7 +14,7 @@ use writer::states::{Between, Filled, Inside, Refused};
 // The most raw bytes.
 pub(crate) const MOST_RAW: usize = 32768;
 
-// Fills a section with the words of raw bytes; a fault gives the writer up.
+// Fills a section with the words of raw bytes; a fault gives the writer up. By a match, since no `?` is to give a writer up unseen.
 fn fill(
     between: Between,
     buffer: &mut [u8],

@@ -11,7 +11,7 @@ use fields::accumulator::Accumulator;
 use fields::place::BitPlace;
 use limits::MOST_BYTES;
 
-// The first `count` raw words, to put behind a memory from a place on. A count beside the bytes, since a section's limit may allow fewer words than there are.
+// The first `count` raw words, to put behind a memory from a place on. A count beside the bytes, since the promise of `put_stream` speaks of it.
 #[derive(Clone, Copy)]
 struct Streaming<'a> {
     memory: u32,

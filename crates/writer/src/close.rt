@@ -13,33 +13,32 @@ use fields::part::put_u32;
 use fields::place::BytePlace;
 use heads::SIZE_BYTE;
 use limits::{MOST_LEFTOVERS, MOST_SECTIONS};
-use state::{Edge, Spot};
-
-// Writes a section's raw size and, if flagged, its pointer into their own bytes.
-fn fill_fields(spot: Spot, buffer: &mut [u8], pointer: u32)
-    requires limit { length buffer.old ≤ 16777216 }
-    requires room { 8 * spot.edge.at.bytes + (if spot.edge.flags.pointed then 64 else 32) ≤ 8 * length buffer.old }
-    ensures { buffer.new ≡ fields_filled spot pointer buffer.old }
-{
-    let start = spot.edge.at;
-    put_u32(buffer, start, spot.raw);
-    if spot.edge.flags.pointed {
-        put_u32(buffer, BytePlace::new(start.bytes() + 4), pointer);
-    }
-}
-
-// Writes the size of the file's raw bytes into its own bytes, if flagged.
-fn fill_size(spot: Spot, buffer: &mut [u8])
-    requires raw { spot.edge.raw + spot.raw ≤ 16777216 }
-    requires room { (if spot.edge.flags.sized then 11 else 7) ≤ length buffer.old }
-    ensures { buffer.new ≡ size_filled spot buffer.old }
-{
-    if spot.edge.flags.sized {
-        put_u32(buffer, BytePlace::new(SIZE_BYTE), spot.edge.raw + spot.raw);
-    }
-}
+use state::Edge;
 
 impl Inside {
+    // Writes the section's raw size and, if flagged, its pointer into their own bytes.
+    fn fill_fields(&self, buffer: &mut [u8], pointer: u32)
+        requires { length buffer.old ≡ self.now.spot.edge.len }
+        ensures { buffer.new ≡ fields_filled self.now.spot pointer buffer.old }
+    {
+        let start = self.spot.edge.at;
+        put_u32(buffer, start, self.spot.raw);
+        if self.spot.edge.flags.pointed {
+            put_u32(buffer, BytePlace::new(start.bytes() + 4), pointer);
+        }
+    }
+
+    // Writes the size of the file's raw bytes into its own bytes, if flagged.
+    fn fill_size(&self, buffer: &mut [u8])
+        requires { length buffer.old ≡ self.now.spot.edge.len }
+        ensures { buffer.new ≡ size_filled self.now.spot buffer.old }
+    {
+        let edge = self.spot.edge;
+        if edge.flags.sized {
+            put_u32(buffer, BytePlace::new(SIZE_BYTE), edge.raw + self.spot.raw);
+        }
+    }
+
     // Closes the section; another follows. Fills in its raw size and its pointer.
     // Faults: 1 buffer or table of another length, 8 no words, 9 the 64th section, 2 it does not fit.
     pub fn more(self, buffer: &mut [u8], table: &[Channel]) -> Result<Between, Refused<Inside>>
@@ -59,8 +58,8 @@ impl Inside {
         let Some(end) = put_more(buffer, spot.at) else {
             return Err(Refused::new(self, Kind::OutputTooShort.at(spot.at)));
         };
+        self.fill_fields(buffer, end.bytes() as u32);
         let Inside { spot: _ } = self;
-        fill_fields(spot, buffer, end.bytes() as u32);
         Ok(Between {
             edge: Edge {
                 at: end,
@@ -96,9 +95,9 @@ impl Inside {
         let Some(end) = put_end(buffer, spot.at, leftovers) else {
             return Err(Refused::new(self, Kind::OutputTooShort.at(spot.at)));
         };
+        self.fill_fields(buffer, 0);
+        self.fill_size(buffer);
         let Inside { spot: _ } = self;
-        fill_fields(spot, buffer, 0);
-        fill_size(spot, buffer);
         Ok(Ended { size: end.bytes() })
     }
 }

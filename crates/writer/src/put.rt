@@ -27,38 +27,35 @@ fn following(rows: usize, channel: usize) -> usize
     if channel + 1 < rows { channel + 1 } else { 0 }
 }
 
-// Behind a word of a row, whose form has so many bits. A row gives way once its repeats are reached or passed.
-fn moved_on(spot: Spot, row: &Channel, len: u32) -> Spot
-    requires turn { spot.channel < spot.rows }
-    requires given { spot.given < 4294967295 }
-    requires raw { spot.raw ≤ 16777216 }
-    requires place { spot.at.bits ≤ 134217728 }
-    ensures value { result ≡ moved_on spot row.now len }
-    ensures turn { result.channel < result.rows }
-    ensures given { result.given < 4294967295 }
-{
-    let at = BitPlace::new(spot.at.bits() + len as usize);
-    let raw = spot.raw + row.word_bytes();
-    let given = spot.given + 1;
-    if row.repeats() <= given {
-        Spot {
-            at,
-            channel: following(spot.rows, spot.channel),
-            given: 0,
-            raw,
-            ..spot
-        }
-    } else {
-        Spot {
-            at,
-            given,
-            raw,
-            ..spot
+impl Inside {
+    // Behind a word of a row, whose form has so many bits. A row gives way once its repeats are reached or passed.
+    fn moved_on(&self, row: &Channel, len: u32) -> Spot
+        ensures value { result ≡ moved_on self.now.spot row.now len }
+        ensures turn { result.channel < result.rows }
+        ensures given { result.given < 4294967295 }
+    {
+        let spot = self.spot;
+        let at = BitPlace::new(spot.at.bits() + len as usize);
+        let raw = spot.raw + row.word_bytes();
+        let given = spot.given + 1;
+        if row.repeats() <= given {
+            Spot {
+                at,
+                channel: following(spot.rows, spot.channel),
+                given: 0,
+                raw,
+                ..spot
+            }
+        } else {
+            Spot {
+                at,
+                given,
+                raw,
+                ..spot
+            }
         }
     }
-}
 
-impl Inside {
     // Writes one word of the next channel and answers how many bits its form has. The row whose word it is moves its memory on.
     // Faults: 1 buffer or table of another length, 7 a row outside the rules, 9 over the limit of raw bytes, 7 a word without a form, 2 it does not fit.
     pub fn put(&mut self, buffer: &mut [u8], table: &mut [Channel], word: u32) -> Result<u32, Fault>
@@ -78,7 +75,7 @@ impl Inside {
         }
         let put = coder.put(row.memory(), word, buffer, spot.at)?;
         table[spot.channel] = row.remembering(put.next);
-        self.spot = moved_on(spot, &row, put.len);
+        self.spot = self.moved_on(&row, put.len);
         Ok(put.len)
     }
 }

@@ -94,7 +94,11 @@ fn scan<C: Coder>(coder: &C, block: &[u8], count: usize) -> Result<BitPlace, Fau
     let mut memory = coder.start();
     let mut at = BitPlace::new(0);
     for _ in 0..count {
-        let taken = take_word(coder, memory, block, at)?;
+        // A match and no `?`, so that the fault is a value here and a wrong place in it is noticed as such.
+        let taken = match take_word(coder, memory, block, at) {
+            Ok(taken) => taken,
+            Err(fault) => return Err(fault),
+        };
         at = BitPlace::new(at.bits() + taken.len as usize);
         memory = taken.next;
     }

@@ -62,9 +62,10 @@ impl Work for Streaming<'_> {
                     ..done
                 };
             }
+            // A plain sum: `plus` stops at the last place that there is, which costs a branch for each word.
             done = Streamed {
                 words: done.words + 1,
-                at: done.at.plus(coded.form.len as usize),
+                at: BitPlace::new(done.at.bits() + coded.form.len as usize),
                 memory: coded.next,
                 fault: None,
             };

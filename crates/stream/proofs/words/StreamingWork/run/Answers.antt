@@ -83,12 +83,11 @@ loop-word-preserved g c =
     let t = c.next.new.self in
     let d = c.in-Some-encode_from.coded in
     let v = c.push.new.self in
-    let few : length b ≤ 16777216 = omega (arith, c.if-buffer-gt-MOST_BYTES.false) in
     let (r, f, u) = push-more C (length b) c.in-Some-word.word (left t.width.bits t.left.now) (left i.width.bits i.left.now) c.in-Some-word.ensures.steps l.done.words l.done.memory l.done.at.bits (held_end w.place w.have) (held l.buffer w.place w.word w.have) _ same inv
     d.form.len d.form.bits (d.next, tt) c.in-Some-encode_from.ensures c.push.result (held c.push.new.buffer v.place v.word v.have) (held_end v.place v.have)
     (c.push.ensures.pushed ∙ ap (is_field (held_end w.place w.have) d.form.len) l.auto.buffer) c.push.ensures.held c.push.ensures.end
     (sym c.if-not-push.false) in
-    let p : c.plus.result.bits ≡ l.done.at.bits + d.form.len = omega (arith, c.plus.ensures, u, few) in (
+    let p : c.new.result.bits ≡ l.done.at.bits + d.form.len = omega (arith, c.new.ensures, c.bits-in-loop-word.ensures) in (
       ap (λ z. streamed C (length b) (l.done.words + 1) d.next z (held c.push.new.buffer v.place v.word v.have) (left t.width.bits t.left.now)) p ∙ r,
       p ∙ f,
       omega (arith, p, u),
